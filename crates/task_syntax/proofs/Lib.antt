@@ -1,0 +1,4 @@
+pub mod Bools
+pub mod Differ
+pub mod FirstWays
+pub mod FirstForm

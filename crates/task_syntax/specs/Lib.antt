@@ -1,0 +1,6 @@
+pub mod Names
+pub mod Places
+pub mod Form
+pub mod Facts
+pub mod Valid
+pub mod First

@@ -1,0 +1,6 @@
+ghost use Rattle.task_syntax.specs.First.{FirstFormIsValid};
+
+/// The law that a well-formed program of the first form is valid. It does nothing when it runs.
+pub fn first_form_is_valid()
+    ensures { FirstFormIsValid }
+{}
