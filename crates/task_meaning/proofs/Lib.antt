@@ -1,0 +1,20 @@
+mod Examples
+pub mod Lists
+pub mod Parts
+pub mod Grows
+pub mod Fuel
+pub mod RootsFuel
+pub mod Complete
+pub mod ActByAct
+pub mod Ahead
+pub mod FromRuns
+pub mod ToRuns
+pub mod GoesOn
+pub mod RootsInTurn
+pub mod Renaming
+pub mod Worths
+pub mod Frames
+pub mod FrameEnds
+pub mod FrameCounts
+pub mod FrameCountsOn
+pub mod RootTasks

@@ -1,0 +1,15 @@
+pub mod Meant
+pub mod Frame
+pub mod Arithmetic
+pub mod Meaning
+pub mod Roots
+pub mod Worths
+pub mod Acts
+pub mod Runs
+pub mod Leads
+pub mod Laws
+pub mod ActLaws
+pub mod WorthLaws
+pub mod FrameLaws
+pub mod FrameCounts
+pub mod RootLaws

@@ -1,0 +1,18 @@
+//! The meaning of a task program on one thread: a spawn is a call that is made at once, a future is the value of that
+//! call, and nothing is refused.
+//!
+//! `specs/Meaning.antt` defines the meaning of a place and of a call, `specs/Roots.antt` that of a program's roots, and
+//! `specs/Worths.antt` the worth of each task of a run. The functions here do nothing: the contract of each is a law.
+#![tactic(auto)]
+
+mod act_laws;
+mod frame_laws;
+mod laws;
+mod worth_laws;
+
+pub use act_laws::{ends, goes_on, goes_on_behind_call, one_meaning, roots_in_turn};
+pub use frame_laws::{frames_add_counts, frames_end, frames_go_on};
+pub use laws::{act_by_act, counts_add_up, counts_need_value, more_fuel};
+pub use worth_laws::{
+    acts_keep_under_names, rests_of_frames, root_tasks, worths_are_means, worths_stay,
+};
