@@ -1,0 +1,10 @@
+pub mod Cutting
+pub mod Digits
+pub mod Naming
+pub mod Taken
+pub mod Whole
+pub mod Lists
+pub mod Lining
+pub mod Rowing
+pub mod Checking
+pub mod Answering
