@@ -1,0 +1,12 @@
+pub mod SpelledParts
+pub mod SpelledSteps
+pub mod SpelledLines
+pub mod Parts
+pub mod Starts
+pub mod Items
+pub mod Spelled
+pub mod AcceptedParts
+pub mod AcceptedSteps
+pub mod AcceptedLines
+pub mod AcceptedText
+pub mod Accepted

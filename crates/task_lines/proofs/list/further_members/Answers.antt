@@ -1,0 +1,30 @@
+use Rattle.std.proofs.Common.{◌≡◌, true, false, refl, ◌∙◌}
+use Rattle.std.proofs.lemmas.Result.{err_from_is_err_and}
+use Rattle.task_text.specs.Scan.{seen, is_future}
+use Rattle.task_lines.specs.Steps.{read_member}
+use Rattle.task_text.proofs.Lists.{each-more, each-fails, each-ends, moved-shorter}
+use Rattle.task_lines.proofs.list.further_members.Goals as goal
+
+pub returns-in_err-read_member : goal.returns-in_err-read_member
+returns-in_err-read_member c =
+    let some : is_future (seen c.words.words) ≡ true = cc in
+    let e = rw c.as_slice.ensures at c.in_err-read_member.ensures.read in
+    let p = err_from_is_err_and c.from_residual.result c.from_residual.ensures.1 in
+    rw (p.1, p.2) (c.words.invariant ∙ each-fails is_future read_member c.words.found c.words.words _ refl some e)
+
+pub words-smaller : goal.words-smaller
+words-smaller c =
+    let some : is_future (seen c.words.words) ≡ true = cc in
+    rw c.in_ok-read_member.ensures.next (moved-shorter is_future c.words.words refl some)
+
+pub words-preserved : goal.words-preserved
+words-preserved c =
+    let some : is_future (seen c.words.words) ≡ true = cc in
+    let e = rw c.as_slice.ensures at c.in_ok-read_member.ensures.read in
+    rw c.in_ok-push.ensures.ok
+    (c.words.invariant ∙ each-more is_future read_member c.words.found c.words.words c.read_member.new.words _ refl some e c.in_ok-read_member.ensures.next)
+
+pub returns : goal.returns
+returns c =
+    let ended : is_future (seen c.words.words) ≡ false = cc in
+    c.words.invariant ∙ each-ends is_future read_member c.words.found c.words.words ended

@@ -1,0 +1,173 @@
+-- The parts of lines, and the lines that are no instructions.
+use Rattle.std.specs.Prelude.{ℕ, Bool, true, false, not, ◌||◌, if◌then◌else◌, List, [], ◌++◌, length, drop, Option, Some, None, codes}
+use Rattle.std.specs.Str.Parse.{digits_value}
+use Rattle.task_syntax.specs.Names.{same_bytes, is_name}
+use Rattle.task_syntax.specs.declared.program.Sort.TheVariants as sort
+use Rattle.task_syntax.specs.declared.program.Variable.{Variable}
+use Rattle.task_syntax.specs.declared.instr.Relation.{Relation}
+use Rattle.task_syntax.specs.declared.value.Priority.{Priority}
+use Rattle.task_syntax.specs.declared.value.Priority.TheVariants.{Regular}
+use Rattle.task_text.specs.declared.fault.Cause.TheVariants.{NoHeader, UnknownWord, BadName, BadNumber, TwiceNamed}
+use Rattle.task_text.specs.Text.{Word}
+use Rattle.task_text.specs.Scan.{is_missing, is_present, begins_with_digit, is_future, is_operand, is_no_bad_number, is_among, Parser, ◌>>=◌, ◌>>◌, ◌<$>◌, pure, peek, take_word, refuse, need, room, fixed, read_name, read_new_name, read_future, eat, each, one_or_more}
+use Rattle.task_lines.specs.declared.step.Term.{Term}
+use Rattle.task_lines.specs.declared.step.Term.TheVariants.{Literal, Variable as TermVariable}
+use Rattle.task_lines.specs.declared.item.RootTerm.{RootTerm}
+use Rattle.task_lines.specs.declared.item.RootTerm.TheVariants as root_term
+use Rattle.task_lines.specs.declared.item.What.{What}
+use Rattle.task_lines.specs.declared.item.What.TheVariants.{Kind, Var, State, End, Root}
+use Rattle.task_lines.specs.declared.scope.Scope.{Scope}
+use Rattle.task_lines.specs.Scope.{has_variable}
+use Rattle.task_lines.specs.Keyword.{relation_of, priority_of}
+
+-- ---- parts
+
+-- what an operand stands for: the number that it writes, or the number variable of that name
+abbrev pub term_of : Word → Term
+term_of word = if begins_with_digit word then Literal (digits_value 10 word) else TermVariable word
+
+unfoldable pub read_term : Parser Term
+read_term = do
+  need is_no_bad_number BadNumber
+  need is_operand BadName
+  term_of <$> take_word
+
+-- the word stands for a variable: a name for a number, and a name behind `@` for a future
+abbrev pub is_variable_word : Word → Bool
+is_variable_word word = is_name word || is_future word
+
+abbrev pub variable_of : Word → Variable
+variable_of word =
+    if is_future word then record { name = drop 1 word; sort = sort.Future } else record { name = word; sort = sort.Number }
+
+abbrev pub is_new : List Variable → Word → Bool
+is_new taken word = not (has_variable taken (variable_of word).sort (variable_of word).name)
+
+-- a variable that is none of those of its kind so far, which may be `limit` in number
+unfoldable pub read_variable : ℕ → List Variable → Parser Variable
+read_variable limit taken = do
+  need is_variable_word BadName
+  need (is_new taken) TwiceNamed
+  room (length taken) limit
+  variable_of <$> take_word
+
+-- the name of a future that is none of those before it in its list
+unfoldable pub read_other_future : List (List ℕ) → Parser (List ℕ)
+read_other_future taken = do
+  need is_future BadName
+  need (λ word. not (is_among taken (drop 1 word))) TwiceNamed
+  drop 1 <$> take_word
+
+-- the predecessor, where one is named
+unfoldable pub read_behind : Parser (Option (List ℕ))
+read_behind = do
+  found ← eat (codes "behind")
+  if found then Some <$> read_future else pure None
+
+abbrev pub priority_by : Option Priority → Parser Priority
+priority_by None = pure Regular
+priority_by (Some priority) = take_word >> pure priority
+
+-- the priority, which is regular where none is written
+unfoldable pub read_priority : Parser Priority
+read_priority = do
+  word ← peek
+  priority_by (priority_of word)
+
+abbrev pub last_priority_by : Option Priority → Parser Priority
+last_priority_by None = refuse UnknownWord
+last_priority_by (Some priority) = take_word >> pure priority
+
+-- the same, where nothing else may stand before the end of the line
+unfoldable pub read_last_priority : Parser Priority
+read_last_priority = do
+  word ← peek
+  if is_missing word then pure Regular else last_priority_by (priority_of word)
+
+-- whether the line ends in `retry`
+unfoldable pub read_retry : Parser Bool
+read_retry = do
+  word ← peek
+  if is_missing word then pure false else fixed (codes "retry") >> pure true
+
+abbrev pub relation_by : Option Relation → Parser Relation
+relation_by None = refuse UnknownWord
+relation_by (Some relation) = take_word >> pure relation
+
+unfoldable pub read_relation : Parser Relation
+read_relation = do
+  word ← peek
+  relation_by (relation_of word)
+
+-- ---- lines
+
+-- `ktask 1`
+unfoldable pub header_line : Parser (Unit {0})
+header_line = do
+  need (same_bytes (codes "ktask")) NoHeader
+  take_word
+  need (same_bytes (codes "1")) NoHeader
+  take_word
+  pure tt
+
+unfoldable pub kind_line : Scope → Parser What
+kind_line scope = do
+  room (length scope.kinds) 64
+  take_word
+  name ← read_new_name TwiceNamed scope.kinds
+  arguments ← each is_present (read_variable 16) []
+  pure (Kind name arguments)
+
+unfoldable pub var_line : Scope → Parser What
+var_line scope = do
+  take_word
+  variables ← one_or_more is_present (λ found. read_variable 255 (scope.variables ++ found))
+  pure (Var variables)
+
+-- the futures behind `holds`, where it is written
+unfoldable pub read_holds : Parser (List (List ℕ))
+read_holds = do
+  found ← eat (codes "holds")
+  if found then one_or_more is_future read_other_future else pure []
+
+-- the futures behind `settled`, where the line does not end before it
+unfoldable pub read_settled : Parser (List (List ℕ))
+read_settled = do
+  word ← peek
+  if is_missing word then pure [] else fixed (codes "settled") >> one_or_more is_present read_other_future
+
+unfoldable pub state_line : Scope → Parser What
+state_line scope = do
+  room (length scope.states) 32
+  take_word
+  name ← read_new_name TwiceNamed scope.states
+  holds ← read_holds
+  settled ← read_settled
+  pure (State name holds settled)
+
+unfoldable pub end_line : Parser What
+end_line = take_word >> pure End
+
+abbrev pub is_root_argument : Word → Bool
+is_root_argument word = begins_with_digit word || is_future word
+
+abbrev pub root_term_of : Word → RootTerm
+root_term_of word = if is_future word then root_term.Root (drop 1 word) else root_term.Number (digits_value 10 word)
+
+-- a number or a root, of at most 16
+unfoldable pub read_root_argument : List RootTerm → Parser RootTerm
+read_root_argument found = do
+  need is_no_bad_number BadNumber
+  room (length found) 16
+  root_term_of <$> take_word
+
+unfoldable pub root_line : Scope → Parser What
+root_line scope = do
+  room (length scope.roots) 16
+  take_word
+  name ← read_new_name TwiceNamed scope.roots
+  kind ← read_name
+  arguments ← each is_root_argument read_root_argument []
+  behind ← read_behind
+  priority ← read_last_priority
+  pure (Root name kind arguments behind priority)

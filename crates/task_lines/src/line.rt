@@ -1,0 +1,142 @@
+//! The lines that are no instructions.
+
+ghost use Rattle.std.specs.Prelude.{◌≡◌, Ok};
+ghost use Rattle.task_text.specs.Scan.{Scans, Reads};
+ghost use Rattle.task_lines.specs.Line as spec;
+
+use crate::item::What;
+use crate::list::{
+    further_variables, read_futures, read_kind_arguments, read_last_futures, read_root_arguments,
+};
+use crate::part::{read_behind, read_last_priority, read_variable};
+use crate::scope::Scope;
+use std::alloc::Global;
+use task_syntax::{List, Name};
+use task_text::{Cause, Fault, TextError, Words};
+
+const MOST_KINDS: usize = 64;
+
+const MOST_STATES: usize = 32;
+
+const MOST_ROOTS: usize = 16;
+
+const MOST_VARIABLES: usize = 255;
+
+/// `ktask 1`.
+#[tactic(auto, unfolding(crate::specs::Line::header_line, task_text::specs::Scan::need))]
+pub(crate) fn header_line(words: &mut Words<'_>) -> Result<(), Fault>
+    ensures { Scans (spec.header_line words.old) result words.new }
+{
+    words.need(b"ktask".as_slice() == words.peek(), Cause::NoHeader)?;
+    words.take_word();
+    words.need(b"1".as_slice() == words.peek(), Cause::NoHeader)?;
+    words.take_word();
+    Ok(())
+}
+
+#[tactic(auto, unfolding(crate::specs::Line::kind_line))]
+pub(crate) fn kind_line(
+    alloc: Global,
+    scope: &Scope,
+    words: &mut Words<'_>,
+) -> Result<What, TextError>
+    ensures { Reads (spec.kind_line scope.now words.old) result words.new }
+{
+    words.room(scope.kinds.len(), MOST_KINDS)?;
+    words.take_word();
+    let name = words.read_new_name(Cause::TwiceNamed, scope.kinds.as_slice())?;
+    let arguments = read_kind_arguments(alloc, words)?;
+    Ok(What::Kind { name, arguments })
+}
+
+#[tactic(auto, unfolding(crate::specs::Line::var_line))]
+pub(crate) fn var_line(
+    alloc: Global,
+    scope: &Scope,
+    words: &mut Words<'_>,
+) -> Result<What, TextError>
+    ensures { Reads (spec.var_line scope.now words.old) result words.new }
+{
+    words.take_word();
+    let before = scope.variables.as_slice();
+    let mut first = List::new(alloc);
+    first.push(read_variable(MOST_VARIABLES, before, &[], words)?)?;
+    let variables = further_variables(MOST_VARIABLES, before, first, words)?;
+    Ok(What::Var { variables })
+}
+
+/// The futures behind `holds`, where it is written.
+#[tactic(auto, unfolding(crate::specs::Line::read_holds))]
+fn read_holds(alloc: Global, words: &mut Words<'_>) -> Result<List<Name>, TextError>
+    ensures { Reads (spec.read_holds words.old) result words.new }
+{
+    if words.eat(b"holds") {
+        read_futures(alloc, words)
+    } else {
+        Ok(List::new(alloc))
+    }
+}
+
+/// The futures behind `settled`, where the line does not end before it.
+#[tactic(auto, unfolding(crate::specs::Line::read_settled))]
+fn read_settled(alloc: Global, words: &mut Words<'_>) -> Result<List<Name>, TextError>
+    ensures { Reads (spec.read_settled words.old) result words.new }
+{
+    if words.peek().is_empty() {
+        return Ok(List::new(alloc));
+    }
+    words.fixed(b"settled")?;
+    read_last_futures(alloc, words)
+}
+
+#[tactic(auto, unfolding(crate::specs::Line::state_line))]
+pub(crate) fn state_line(
+    alloc: Global,
+    scope: &Scope,
+    words: &mut Words<'_>,
+) -> Result<What, TextError>
+    ensures { Reads (spec.state_line scope.now words.old) result words.new }
+{
+    words.room(scope.states.len(), MOST_STATES)?;
+    words.take_word();
+    let name = words.read_new_name(Cause::TwiceNamed, scope.states.as_slice())?;
+    let holds = read_holds(alloc, words)?;
+    let settled = read_settled(alloc, words)?;
+    Ok(What::State {
+        name,
+        holds,
+        settled,
+    })
+}
+
+#[tactic(auto, unfolding(crate::specs::Line::end_line))]
+pub(crate) fn end_line(words: &mut Words<'_>) -> What
+    ensures { spec.end_line words.old ≡ Ok (result, words.new) }
+{
+    words.take_word();
+    What::End
+}
+
+#[tactic(auto, unfolding(crate::specs::Line::root_line))]
+pub(crate) fn root_line(
+    alloc: Global,
+    scope: &Scope,
+    words: &mut Words<'_>,
+) -> Result<What, TextError>
+    ensures { Reads (spec.root_line scope.now words.old) result words.new }
+{
+    words.room(scope.roots.len(), MOST_ROOTS)?;
+    words.take_word();
+    let name = words.read_new_name(Cause::TwiceNamed, scope.roots.as_slice())?;
+    let kind = words.read_name()?;
+    let arguments = read_root_arguments(alloc, words)?;
+    let behind = read_behind(words)?;
+    let priority = read_last_priority(words)?;
+    Ok(What::Root {
+        name,
+        kind,
+        arguments,
+        behind,
+        priority,
+    })
+}
