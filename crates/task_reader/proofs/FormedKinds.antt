@@ -1,0 +1,123 @@
+-- The kinds of a program are well formed where their names are known.
+use Rattle.std.proofs.Common.{◌≡◌, ℕ, ◌≤◌, List, [], ◌∷◌, ◌++◌, Ok, map, length, refl, sym, ◌∙◌, ap, subst, arith}
+use Rattle.std.proofs.lemmas.List.{append_assoc, length-append, length-map}
+use Rattle.task_syntax.specs.Names.{IsName}
+use Rattle.task_syntax.specs.Places.{AllDiffer, Each}
+use Rattle.task_syntax.specs.Form.{IsFormedKind}
+use Rattle.task_syntax.specs.declared.program.Sort.{Sort}
+use Rattle.task_syntax.specs.declared.program.Sort.TheVariants as sort
+use Rattle.task_syntax.specs.declared.program.Variable.{Variable}
+use Rattle.task_syntax.specs.declared.program.State.{State}
+use Rattle.task_syntax.specs.declared.program.Program.{Program}
+use Rattle.task_syntax.proofs.Differ.{each-nil, each-cons, each-append}
+use Rattle.task_text.specs.Text.{Word}
+use Rattle.task_lines.specs.declared.item.What.{What}
+use Rattle.task_lines.specs.declared.item.What.TheVariants as what
+use Rattle.task_lines.specs.declared.item.Item.{Item}
+use Rattle.task_lines.specs.declared.scope.Scope.{Scope}
+use Rattle.task_lines.specs.Scope.{after}
+use Rattle.task_lines.specs.Grammar.{EachSpells, SpellsName, SpellsFuture, SpellsVariable}
+use Rattle.task_reader.specs.Names.{kind_names, state_names, known_at, line_known, names_known}
+use Rattle.task_reader.specs.declared.positions.Positions.{Positions}
+use Rattle.task_reader.specs.Program.{states_from, variables_from, kind_of, kinds_from}
+use Rattle.task_reader.proofs.Known.{both-known}
+use Rattle.task_reader.proofs.FormedSteps.{IsFor}
+use Rattle.task_reader.proofs.Stands.{Stand, item_at, AreNames, no-names, state-names, names-of-states}
+use Rattle.task_reader.proofs.FormedStates.{states-formed, has-state}
+
+-- variables with names of the language, none twice, and not too many
+pub record AreVariables (variables : List Variable) : Type 0 where
+  pub differ : AllDiffer variables
+  pub fit : length variables ≤ 255
+  pub names : Each variables (λ (v : Variable). IsName v.name)
+
+variable-name : (word : Word) (variable : Variable) → SpellsVariable word variable → IsName variable.name
+variable-name word variable = by variable.sort where
+  by : (s : Sort) → elim s as (λ _. Type 0) [ sort.Number ↦ SpellsName word variable.name | sort.Future ↦ SpellsFuture word variable.name ] → IsName variable.name
+  by sort.Number h = h.1
+  by sort.Future h = h.1
+
+variable-names : (words : List Word) (variables : List Variable) → EachSpells SpellsVariable words variables → Each variables (λ (v : Variable). IsName v.name)
+variable-names words [] h = each-nil (λ (v : Variable). IsName v.name)
+variable-names [] (variable ∷ more) h = absurd h
+variable-names (word ∷ words) (variable ∷ more) h = each-cons (λ (v : Variable). IsName v.name) variable more (variable-name word variable h.0) (variable-names words more h.1)
+
+nothing-more : {X : Type 0} (xs : List X) → xs ++ [] ≡ xs
+nothing-more [] = refl
+nothing-more (x ∷ xs) = ap (λ more. x ∷ more) (nothing-more xs)
+
+abbrev VariablesFormed : List Item → Type 0
+VariablesFormed items = (s : Scope) → Stand s items → AreVariables s.variables → AreVariables (s.variables ++ variables_from items)
+
+variables-formed-step : (line : ℕ) (w : What) (items : List Item) → VariablesFormed items → VariablesFormed (item_at line w ∷ items)
+variables-formed-step line (what.Var more) items further s stand are =
+    subst AreVariables (append_assoc s.variables more (variables_from items))
+    (further (after s (what.Var more)) stand.2 (record {
+      differ = stand.1.1;
+      fit = stand.1.2;
+      names = each-append (λ (v : Variable). IsName v.name) s.variables more are.names (variable-names stand.0.1.0 more stand.0.1.3);
+    }))
+variables-formed-step line w items further s stand are = subst AreVariables (sym (nothing-more s.variables)) are
+
+variables-formed : (items : List Item) → VariablesFormed items
+variables-formed [] s stand are = subst AreVariables (sym (nothing-more s.variables)) are
+variables-formed (item ∷ items) s stand are = variables-formed-step item.line item.what items (variables-formed items) s stand are
+
+kind-formed : (p : Program) (kinds : List (List ℕ)) → length p.kinds ≡ length kinds → (all : List Item) → kind_names all ≡ kinds
+    → (s : Scope) (line : ℕ) (name : List ℕ) (arguments : List Variable) (items : List Item) → Stand s (item_at line (what.Kind name arguments) ∷ items)
+    → names_known all (after s (what.Kind name arguments)) items ≡ Ok tt → IsFormedKind p (kind_of kinds line name arguments items)
+unfolding kind_of
+kind-formed p kinds count all names s line name arguments items stand looked_up = record {
+  name = stand.0.1.2;
+  arguments_fit = stand.1.4;
+  arguments_are_variables = omega (arith, length-append arguments (variables_from items));
+  variables_fit = variables.fit;
+  variable_names = variables.names;
+  variables_differ = variables.differ;
+  states_fit = omega (arith, ap length same, length-map (states_from positions items) (λ (s : State). s.name), state_names_are.fit);
+  has_state = has-state positions items head refl stand.2;
+  state_names_differ = subst (λ names. AllDiffer names) (sym same) state_names_are.differ;
+  states = states-formed positions p (kind_of kinds line name arguments items) for all names items head tt stand.2 looked_up refl refl;
+} where
+  positions : Positions
+  positions = record { kinds = kinds; variables = arguments ++ variables_from items; states = state_names items }
+
+  head : Scope
+  head = after s (what.Kind name arguments)
+
+  same : map (λ (s : State). s.name) (states_from positions items) ≡ state_names items
+  same = names-of-states positions items
+
+  variables : AreVariables (arguments ++ variables_from items)
+  variables = variables-formed items head stand.2 (record { differ = stand.1.3; fit = omega (arith, stand.1.4); names = variable-names stand.0.1.0 arguments stand.0.1.3 })
+
+  state_names_are : AreNames 32 (state_names items)
+  state_names_are = state-names items head tt stand.2 (no-names 32)
+
+  for : IsFor positions p (kind_of kinds line name arguments items)
+  for = record {
+    kinds = count;
+    variables = refl;
+    states = sym (length-map (states_from positions items) (λ (s : State). s.name)) ∙ ap length same;
+  }
+
+abbrev KindsFormed : Program → List (List ℕ) → List Item → List Item → Type 0
+KindsFormed p kinds all items = (s : Scope) → Stand s items → names_known all s items ≡ Ok tt → Each (kinds_from kinds items) (IsFormedKind p)
+
+kinds-formed-step : (p : Program) (kinds : List (List ℕ)) → length p.kinds ≡ length kinds → (all : List Item) → kind_names all ≡ kinds
+    → (line : ℕ) (w : What) (items : List Item) → KindsFormed p kinds all items → KindsFormed p kinds all (item_at line w ∷ items)
+unfolding kinds_from names_known line_known
+kinds-formed-step p kinds count all names line (what.Kind name arguments) items further s stand known =
+    each-cons (IsFormedKind p) (kind_of kinds line name arguments items) (kinds_from kinds items)
+    (kind-formed p kinds count all names s line name arguments items stand known)
+    (further (after s (what.Kind name arguments)) stand.2 known)
+kinds-formed-step p kinds count all names line w items further s stand known =
+    let parts = both-known (line_known (known_at all s items) line w) (names_known all (after s w) items) known in
+    further (after s w) stand.2 parts.1
+
+pub kinds-formed : (p : Program) (kinds : List (List ℕ)) → length p.kinds ≡ length kinds → (all : List Item) → kind_names all ≡ kinds
+    → (items : List Item) → KindsFormed p kinds all items
+unfolding kinds_from
+kinds-formed p kinds count all names [] s stand known = each-nil (IsFormedKind p)
+kinds-formed p kinds count all names (item ∷ items) s stand known =
+    kinds-formed-step p kinds count all names item.line item.what items (kinds-formed p kinds count all names items) s stand known

@@ -1,0 +1,102 @@
+-- The roots of a program are well formed where their names are known.
+use Rattle.std.proofs.Common.{◌≡◌, ℕ, zero, suc, ◌+◌, ◌<◌, true, Option, Some, None, List, [], ◌∷◌, ◌++◌, Ok, length, slice_get, sym, subst, arith}
+use Rattle.std.specs.Prelude.{IfSome}
+use Rattle.std.specs.Option.{option_map}
+use Rattle.std.proofs.lemmas.List.{length-append, length-map}
+use Rattle.task_syntax.specs.Places.{Each}
+use Rattle.task_syntax.specs.Form.{IsFormedRootArgument, IsFormedRoot}
+use Rattle.task_syntax.specs.declared.program.Root.{Root}
+use Rattle.task_syntax.specs.declared.program.Program.{Program}
+use Rattle.task_syntax.specs.declared.value.Priority.{Priority}
+use Rattle.task_syntax.proofs.Differ.{each-map, each-nil, each-cons}
+use Rattle.task_text.specs.Fault.{◌>>◌}
+use Rattle.task_text.specs.Text.{Word}
+use Rattle.task_text.specs.Scan.{is_among}
+use Rattle.task_lines.specs.declared.item.RootTerm.{RootTerm}
+use Rattle.task_lines.specs.declared.item.RootTerm.TheVariants as root_term
+use Rattle.task_lines.specs.declared.item.What.{What}
+use Rattle.task_lines.specs.declared.item.What.TheVariants as what
+use Rattle.task_lines.specs.declared.item.Item.{Item}
+use Rattle.task_lines.specs.declared.scope.Scope.{Scope}
+use Rattle.task_lines.specs.Scope.{after}
+use Rattle.task_lines.specs.Grammar.{EachSpells, SpellsRootTerm}
+use Rattle.task_reader.specs.Names.{Known, kind_names, known, root_known, root_term_known, each_known, behind_known, known_at, line_known, names_known}
+use Rattle.task_reader.specs.Program.{place_of, root_argument_of, root_of, roots_from}
+use Rattle.task_reader.proofs.Places.{place-within}
+use Rattle.task_reader.proofs.Known.{both-known, known-true}
+use Rattle.task_reader.proofs.FormedSteps.{number-fits}
+use Rattle.task_reader.proofs.Stands.{Stand, item_at}
+
+argument-formed : (k : Known) (line at : ℕ) (w : Word) (a : RootTerm) → SpellsRootTerm w a → root_term_known k line at a ≡ Ok tt
+    → IsFormedRootArgument (length k.roots) (root_argument_of k.roots a)
+argument-formed k line at w (root_term.Number n) s e = number-fits w n s
+argument-formed k line at w (root_term.Root name) s e = place-within k.roots name (known-true line at (is_among k.roots name) e)
+
+arguments-formed : (k : Known) (line word : ℕ) (ws : List Word) (arguments : List RootTerm) → EachSpells SpellsRootTerm ws arguments
+    → each_known (root_term_known k line) word arguments ≡ Ok tt → Each arguments (λ a. IsFormedRootArgument (length k.roots) (root_argument_of k.roots a))
+unfolding each_known
+arguments-formed k line word ws [] s e = each-nil (λ a. IsFormedRootArgument (length k.roots) (root_argument_of k.roots a))
+arguments-formed k line word [] (a ∷ more) s e = absurd s
+arguments-formed k line word (w ∷ ws) (a ∷ more) s e =
+    let b = both-known (root_term_known k line word a) (each_known (root_term_known k line) (word + 1) more) e in
+    each-cons (λ a. IsFormedRootArgument (length k.roots) (root_argument_of k.roots a)) a more
+    (argument-formed k line word w a s.0 b.0) (arguments-formed k line (word + 1) ws more s.1 b.1)
+
+behind-formed : (k : Known) (line word : ℕ) (behind : Option (List ℕ)) → behind_known (root_known k line) word behind ≡ Ok tt
+    → IfSome (option_map (place_of k.roots) behind) (λ earlier. earlier < length k.roots)
+behind-formed k line word None e = tt
+behind-formed k line word (Some name) e = place-within k.roots name (known-true line (word + 1) (is_among k.roots name) e)
+
+same-root : (a b : Root) → Some a ≡ Some b → a ≡ b
+same-root a b e = cc
+
+abbrev RootsFormed : Program → List (List ℕ) → List Item → List Item → Type 0
+RootsFormed p kinds all items = (s : Scope) → Stand s items → names_known all s items ≡ Ok tt
+    → (i : ℕ) (root : Root) → slice_get (roots_from kinds s.roots items) i ≡ Some root → IsFormedRoot p (length s.roots + i) root
+
+root-formed : (p : Program) (kinds : List (List ℕ)) → length p.kinds ≡ length kinds → (all : List Item) → kind_names all ≡ kinds
+    → (s : Scope) (line : ℕ) (name kind : List ℕ) (arguments : List RootTerm) (behind : Option (List ℕ)) (priority : Priority) (items : List Item)
+    → Stand s (item_at line (what.Root name kind arguments behind priority) ∷ items)
+    → line_known (known_at all s items) line (what.Root name kind arguments behind priority) ≡ Ok tt
+    → IsFormedRoot p (length s.roots) (root_of kinds s.roots line name kind arguments behind priority)
+unfolding line_known root_of
+root-formed p kinds count all names s line name kind arguments behind priority items stand looked_up = record {
+  name = stand.0.1.4;
+  kind = subst (λ n. place_of kinds kind < n) (sym count)
+      (place-within kinds kind (subst (λ ks. is_among ks kind ≡ true) names (known-true line 3 (is_among (kind_names all) kind) front.0)));
+  arguments_fit = omega (arith, length-map arguments (root_argument_of s.roots), stand.1.3);
+  arguments = each-map (root_argument_of s.roots) (IsFormedRootArgument (length s.roots)) arguments
+      (arguments-formed k line 4 stand.0.1.0 arguments stand.0.1.6 front.1);
+  behind = behind-formed k line (4 + length arguments) behind parts.1;
+} where
+  k : Known
+  k = known_at all s items
+
+  parts : ((known line 3 (is_among k.kinds kind) >> each_known (root_term_known k line) 4 arguments) ≡ Ok tt) × (behind_known (root_known k line) (4 + length arguments) behind ≡ Ok tt)
+  parts = both-known _ _ looked_up
+
+  front : (known line 3 (is_among k.kinds kind) ≡ Ok tt) × (each_known (root_term_known k line) 4 arguments ≡ Ok tt)
+  front = both-known _ _ parts.0
+
+roots-formed-step : (p : Program) (kinds : List (List ℕ)) → length p.kinds ≡ length kinds → (all : List Item) → kind_names all ≡ kinds
+    → (line : ℕ) (w : What) (items : List Item) → RootsFormed p kinds all items → RootsFormed p kinds all (item_at line w ∷ items)
+unfolding roots_from names_known
+roots-formed-step p kinds count all names line (what.Root name kind arguments behind priority) items further s stand known zero root e =
+    let parts = both-known (line_known (known_at all s items) line (what.Root name kind arguments behind priority)) (names_known all (after s (what.Root name kind arguments behind priority)) items) known in
+    let z : length s.roots ≡ length s.roots + 0 = omega arith in
+    subst (λ n. IsFormedRoot p n root) z (subst (IsFormedRoot p (length s.roots)) (same-root (root_of kinds s.roots line name kind arguments behind priority) root e)
+    (root-formed p kinds count all names s line name kind arguments behind priority items stand parts.0))
+roots-formed-step p kinds count all names line (what.Root name kind arguments behind priority) items further s stand known (suc i) root e =
+    let parts = both-known (line_known (known_at all s items) line (what.Root name kind arguments behind priority)) (names_known all (after s (what.Root name kind arguments behind priority)) items) known in
+    let z : length (s.roots ++ name ∷ []) + i ≡ length s.roots + suc i = omega (arith, length-append s.roots (name ∷ [])) in
+    subst (λ n. IsFormedRoot p n root) z (further (after s (what.Root name kind arguments behind priority)) stand.2 parts.1 i root e)
+roots-formed-step p kinds count all names line w items further s stand known i root e =
+    let parts = both-known (line_known (known_at all s items) line w) (names_known all (after s w) items) known in
+    further (after s w) stand.2 parts.1 i root e
+
+pub roots-formed : (p : Program) (kinds : List (List ℕ)) → length p.kinds ≡ length kinds → (all : List Item) → kind_names all ≡ kinds
+    → (items : List Item) → RootsFormed p kinds all items
+unfolding roots_from
+roots-formed p kinds count all names [] s stand known i root e = cc
+roots-formed p kinds count all names (item ∷ items) s stand known i root e =
+    roots-formed-step p kinds count all names item.line item.what items (roots-formed p kinds count all names items) s stand known i root e

@@ -1,0 +1,39 @@
+-- What the reading of a text means for the answer.
+use Rattle.std.proofs.Common.{◌≡◌, ℕ, ◌<◌, ◌^◌, List, length, Result, Ok, Err, refl, sym, ◌∙◌}
+use Rattle.task_syntax.specs.Form.{IsWellFormed}
+use Rattle.task_syntax.specs.declared.program.Program.{Program}
+use Rattle.task_text.specs.declared.fault.Fault.{Fault}
+use Rattle.task_text.specs.declared.fault.TextError.{TextError}
+use Rattle.task_text.specs.declared.fault.TextError.TheVariants as text_error
+use Rattle.task_text.specs.Fault.{Gives}
+use Rattle.task_lines.specs.declared.item.Item.{Item}
+use Rattle.task_lines.specs.Reading.{items_of}
+use Rattle.task_lines.proofs.Spelled.{items_of-spelled}
+use Rattle.task_reader.specs.declared.error.ReadError.{ReadError}
+use Rattle.task_reader.specs.Fits.{Fit}
+use Rattle.task_reader.specs.Read.{program_in, GivesProgram, Spelled, Answers, error_of}
+use Rattle.task_reader.proofs.Fitting.{items_fit}
+use Rattle.task_reader.proofs.Read.{program_in-spelled, program_in-formed, spelled-accepts}
+
+pub items_read : (text : List ℕ) (items : List Item) → length text < 2 ^ 32 → items_of text ≡ Ok items → Fit items
+items_read text items small e = items_fit text items small (items_of-spelled text items e)
+
+pub error-exact : (text : List ℕ) (e : TextError) → Gives {A = Program} {B = Program} (λ p. p) (Err e) (program_in text) → GivesProgram (Err (error_of e)) (program_in text)
+error-exact text (text_error.Fault fault) h = (fault, h, refl, refl, refl)
+error-exact text text_error.Memory h = tt
+
+same-program : (p q : Program) → ◌≡◌ {A = Result Program Fault} (Ok p) (Ok q) → p ≡ q
+same-program p q e = cc
+
+no-fault : (p : Program) (fault : Fault) → ◌≡◌ {A = Result Program Fault} (Ok p) (Err fault) → ⊥
+no-fault p fault e = cc
+
+pub program-answers : (text : List ℕ) (q : Program) → program_in text ≡ Ok q → (p : Program) → Spelled text p → q ≡ p
+program-answers text q e p s = same-program q p (sym e ∙ spelled-accepts text p s)
+
+pub error-answers : (text : List ℕ) (e : TextError) → Gives {A = Program} {B = Program} (λ p. p) (Err e) (program_in text)
+    → (p : Program) → Spelled text p → Answers p (Err (error_of e))
+error-answers text (text_error.Fault fault) h p s = no-fault p fault (sym (spelled-accepts text p s) ∙ h)
+error-answers text text_error.Memory h p s = tt
+
+pub ruleset read_laws = (error-exact, program-answers, error-answers, program_in-spelled, program_in-formed)

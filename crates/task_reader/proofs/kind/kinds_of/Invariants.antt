@@ -1,0 +1,10 @@
+use Rattle.std.proofs.Common.{◌≡◌, ◌++◌, drop}
+use Rattle.task_reader.specs.Program.{kinds_from}
+use Rattle.task_reader.specs.Fits.{EachIsShort}
+use Rattle.task_reader.proofs.kind.kinds_of.Given as goal
+
+abbrev pub invariant-items : goal.invariant-items
+invariant-items l = record {
+  short : EachIsShort (drop l.at l.items);
+  same : l.read ++ kinds_from l.kinds (drop l.at l.items) ≡ kinds_from l.kinds l.items;
+}

@@ -1,0 +1,6 @@
+use Rattle.std.proofs.Common.{◌≡◌, ◌++◌, drop}
+use Rattle.task_reader.specs.Names.{kind_names}
+use Rattle.task_reader.proofs.lists.kind_names.Given as goal
+
+abbrev pub invariant-items : goal.invariant-items
+invariant-items l = l.names ++ kind_names (drop l.at l.items) ≡ kind_names l.items

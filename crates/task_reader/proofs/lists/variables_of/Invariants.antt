@@ -1,0 +1,6 @@
+use Rattle.std.proofs.Common.{◌≡◌, ◌++◌, drop}
+use Rattle.task_reader.specs.Program.{variables_from}
+use Rattle.task_reader.proofs.lists.variables_of.Given as goal
+
+abbrev pub invariant-lines : goal.invariant-lines
+invariant-lines l = l.variables ++ variables_from (drop l.at l.items) ≡ l.arguments ++ variables_from l.items

@@ -1,0 +1,8 @@
+use Rattle.std.proofs.Common.{sym, subst}
+use Rattle.task_reader.specs.Fits.{Fit}
+use Rattle.task_reader.proofs.ReadLaws.{items_read}
+use Rattle.task_reader.proofs.reading.program_in.Goals as goal
+
+pub program_from-requires : goal.program_from-requires
+program_from-requires c =
+    subst Fit (sym c.as_slice.ensures) (items_read c.args.text.now c.in_ok-items.items c.requires c.in_ok-items.ensures)

@@ -1,0 +1,6 @@
+use Rattle.std.proofs.Common.{◌≡◌, map, take}
+use Rattle.task_reader.specs.Program.{root_argument_of}
+use Rattle.task_reader.proofs.root.root_arguments_of.Given as goal
+
+abbrev pub invariant-loop-term : goal.invariant-loop-term
+invariant-loop-term l = l.places ≡ map (root_argument_of l.earlier) (take l.term-index l.arguments)

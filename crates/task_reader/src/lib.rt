@@ -1,0 +1,24 @@
+//! Task programs as text: reading them, with the first fault where the text is no program.
+//!
+//! `specs/Read.antt` says what is read; the rows, lines and grammar that it stands on are those of the crates below.
+#![tactic(auto)]
+
+mod ahead;
+mod error;
+mod first_form;
+mod instr;
+mod kind;
+mod lists;
+mod names;
+mod place;
+mod positions;
+mod program;
+mod reading;
+mod root;
+mod state;
+mod unknown;
+mod uses;
+
+pub use error::ReadError;
+pub use first_form::first;
+pub use reading::read_program;
