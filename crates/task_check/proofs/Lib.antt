@@ -1,0 +1,11 @@
+pub mod Masks
+pub mod Answers
+pub mod Agreed
+pub mod Places
+pub mod First
+pub mod Lacks
+pub mod LineFaults
+pub mod Passing
+pub mod RootFaults
+pub mod StateFaults
+pub mod Sound
