@@ -1,0 +1,12 @@
+pub mod Placed
+pub mod Entry
+pub mod Roots
+pub mod Along
+pub mod OfRoot
+pub mod FutureFacts
+pub mod Steady
+pub mod Begin
+pub mod Calls
+pub mod Resume
+pub mod UnderWay
+pub mod Formed

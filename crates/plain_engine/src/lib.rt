@@ -1,0 +1,21 @@
+//! Task programs on one thread: each root, and each task that it spawns, is carried to its end at once.
+//!
+//! `specs/SoundEnd.antt` says which end of a run is sound.
+#![tactic(auto)]
+
+mod advance;
+mod arithmetic;
+mod end;
+mod event;
+mod instruction;
+mod lookup;
+mod run;
+mod running;
+mod stack;
+mod start;
+#[cfg(test)]
+mod tests;
+mod turn;
+
+pub use end::{CutFrom, CutTag, LIMIT, PlainEnd, RootEnd};
+pub use run::PlainRun;
