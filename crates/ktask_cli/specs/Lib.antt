@@ -1,0 +1,15 @@
+pub mod Choice
+pub mod Count
+pub mod Fault
+pub mod Fetch
+pub mod MemoryShelf
+pub mod MemorySink
+pub mod Plan
+pub mod Refusal
+pub mod Report
+pub mod Seen
+pub mod Sink
+pub mod Stop
+pub mod Ready
+pub mod Outcome
+pub mod Statuses

@@ -1,0 +1,51 @@
+-- The reasons to stop: the exit status and the line of each.
+use Rattle.std.specs.Prelude.{ℕ, List, [], ◌∷◌, ◌++◌, codes, decimal, ◌==◌, if◌then◌else◌}
+use Rattle.ktask_cli.specs.declared.stop.InputFile.{InputFile}
+use Rattle.ktask_cli.specs.declared.stop.Stop.{Stop}
+use Rattle.ktask_cli.specs.declared.stop.Stop.TheVariants.{WordsRefused, CannotRead, TooLong, ProgramFault, NotFirstForm, WriteFault, WantOfMemory}
+use Rattle.ktask_cli.specs.declared.fetch_error.FetchError.{FetchError}
+use Rattle.ktask_cli.specs.declared.fetch_error.FetchError.TheVariants as fetch
+
+abbrev pub status_of : Stop → ℕ
+status_of WordsRefused = 2
+status_of (ProgramFault cause line word) = 5
+status_of NotFirstForm = 5
+status_of (CannotRead which) = 7
+status_of (TooLong which) = 7
+status_of WriteFault = 8
+status_of WantOfMemory = 9
+
+-- the text and a line end
+abbrev pub ended : List ℕ → List ℕ
+ended text = text ++ 10 ∷ []
+
+-- the name of a cause for which a text is no program
+abbrev pub cause_name : ℕ → List ℕ
+cause_name cause =
+    if cause == 1 then codes "NotText" else (
+    if cause == 2 then codes "NoHeader" else (
+    if cause == 3 then codes "UnknownWord" else (
+    if cause == 4 then codes "BadName" else (
+    if cause == 5 then codes "BadNumber" else (
+    if cause == 6 then codes "TwiceNamed" else (
+    if cause == 7 then codes "UnknownName" else (
+    if cause == 8 then codes "TooMany" else (
+    if cause == 9 then codes "NoEnd" else (
+    if cause == 10 then codes "BackLabel" else codes "WordsLeft")))))))))
+
+-- what is said of the reason, where `name` is the file's
+abbrev pub line_of : List ℕ → Stop → List ℕ
+line_of name WordsRefused = ended (codes "ktask: words refused, see ktask help")
+line_of name (ProgramFault cause line word) =
+    ended (codes "ktask: program line " ++ decimal line ++ codes " word " ++ decimal word ++ codes " cause " ++ decimal cause ++ codes " " ++ cause_name cause)
+line_of name NotFirstForm = ended (codes "ktask: program not of the first form")
+line_of name (CannotRead which) = ended (codes "ktask: cannot read " ++ name)
+line_of name (TooLong which) = ended (codes "ktask: " ++ name ++ codes " is longer than 16777216 bytes")
+line_of name WriteFault = ended (codes "ktask: write fault")
+line_of name WantOfMemory = ended (codes "ktask: want of memory")
+
+-- why a refused fetch of this file stops the command
+abbrev pub fetch_stop : InputFile → FetchError → Stop
+fetch_stop which fetch.Failed = CannotRead which
+fetch_stop which fetch.TooLong = TooLong which
+fetch_stop which fetch.Memory = WantOfMemory

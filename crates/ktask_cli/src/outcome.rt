@@ -1,0 +1,8 @@
+use plain_engine::PlainEnd;
+
+/// What the tool answers: its exit status, and the end of the run where one was reached.
+#[derive(Debug, Drop)]
+pub struct Outcome {
+    pub status: u8,
+    pub finished: Option<PlainEnd>,
+}

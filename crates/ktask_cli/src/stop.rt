@@ -1,0 +1,37 @@
+ghost use Rattle.std.specs.Prelude.{◌≡◌};
+
+/// A file that the words name.
+#[derive(Clone, Copy, Debug, PartialEq, Eq)]
+pub enum InputFile {
+    Program,
+}
+
+/// Every reason for which a command ends without what it was asked for.
+#[derive(Clone, Copy, Debug, PartialEq, Eq)]
+pub enum Stop {
+    WordsRefused,
+    CannotRead(InputFile),
+    TooLong(InputFile),
+    /// The text is no program: the number of the cause, the line, and the word in it, both counted from 1.
+    ProgramFault { cause: u8, line: u32, word: u32 },
+    NotFirstForm,
+    WriteFault,
+    WantOfMemory,
+}
+
+impl Stop {
+    ghost use Rattle.ktask_cli.specs.Stop.{status_of};
+
+    /// The exit status of the tool.
+    pub fn status(self) -> u8
+        ensures { result ≡ status_of self }
+    {
+        match self {
+            Stop::WordsRefused => 2,
+            Stop::ProgramFault { .. } | Stop::NotFirstForm => 5,
+            Stop::CannotRead(_) | Stop::TooLong(_) => 7,
+            Stop::WriteFault => 8,
+            Stop::WantOfMemory => 9,
+        }
+    }
+}

@@ -1,0 +1,314 @@
+use crate::error::Failed;
+use crate::fetch_error::FetchError;
+use crate::fetch_file::{FILE_LIMIT, fetch_file, fetch_program};
+use crate::file_shelf::FileShelf;
+use crate::memory_shelf::MemoryShelf;
+use crate::memory_sink::MemorySink;
+use crate::out_sink::OutSink;
+use crate::put::put_all;
+use crate::read_up_to::read_up_to;
+use crate::refuse::refuse;
+use crate::shelf::Shelf;
+use crate::sink::Sink;
+use crate::stop::{InputFile, Stop};
+use std::alloc::{AllocError, Global};
+use std::io;
+use std::io::{Error, ErrorKind, Read, Write};
+use std::test::Fail;
+
+fn text(alloc: Global, bytes: &str) -> Result<String, AllocError> {
+    let mut text = String::new(alloc);
+    text.push_str(bytes)?;
+    Ok(text)
+}
+
+fn bytes(alloc: Global, from: &[u8]) -> Result<Vec<u8>, AllocError> {
+    let mut bytes = Vec::new(alloc);
+    bytes.extend_from_slice(from)?;
+    Ok(bytes)
+}
+
+// A shelf with two names, the first of which stands twice.
+fn small_shelf(rt: &HostRuntime, fail: &[u64]) -> Result<MemoryShelf, AllocError> {
+    let mut names = Vec::new(rt.alloc());
+    for (name, content) in [("a", "one"), ("a", "two"), ("b", "")] {
+        names.push((
+            text(rt.alloc(), name)?,
+            bytes(rt.alloc(), content.as_bytes())?,
+        ))?;
+    }
+    let mut listed = Vec::new(rt.alloc());
+    listed.extend_from_slice(fail)?;
+    Ok(MemoryShelf::new(names, listed))
+}
+
+// What a shelf answers to one fetch into an empty vector, and what is in that then.
+fn fetched<S: Shelf>(
+    alloc: Global,
+    shelf: &mut S,
+    name: &str,
+    most: u64,
+) -> (Result<(), FetchError>, Vec<u8>) {
+    let mut into = Vec::new(alloc);
+    let answer = shelf.fetch(name, most, &mut into);
+    (answer, into)
+}
+
+#[test]
+fn memory_shelf_answers(rt: HostRuntime) -> Result<(), Fail> {
+    let mut shelf = small_shelf(&rt, &[5])?;
+    let failed = Err(FetchError::Failed);
+    let rows = [
+        ("a", 3, Ok(()), "one", 0),
+        ("a", 2, Err(FetchError::TooLong), "", 0),
+        ("b", 0, Ok(()), "", 0),
+        ("c", 9, failed, "", 1),
+        ("a", 2, failed, "", 2),
+        ("a", 4, Ok(()), "one", 2),
+    ];
+    for (name, most, answer, content, faults) in rows {
+        let (got, into) = fetched(rt.alloc(), &mut shelf, name, most);
+        assert_eq!(rt; got, answer, "at {name}, {most}");
+        assert_eq!(rt; into.as_slice(), content.as_bytes());
+        assert_eq!(rt; shelf.last, Some(answer));
+        assert_eq!(rt; shelf.faults, faults);
+    }
+    assert_eq!(rt; shelf.calls, 6);
+    Ok(())
+}
+
+#[test]
+fn memory_sink_fails_as_told_and_where_its_room_ends(rt: HostRuntime) -> Result<(), Fail> {
+    let mut listed = Vec::new(rt.alloc());
+    listed.push(1)?;
+    let mut sink = MemorySink::new(rt.alloc(), 3, listed)?;
+    let rows = [
+        ("x", Err(Failed), "", 1),
+        ("ab", Ok(2), "ab", 1),
+        ("cd", Err(Failed), "ab", 2),
+        ("c", Ok(1), "abc", 2),
+        ("", Ok(0), "abc", 2),
+    ];
+    for (piece, answer, taken, faults) in rows {
+        assert_eq!(rt; sink.put(piece.as_bytes()), answer, "at {piece}");
+        assert_eq!(rt; sink.bytes.as_slice(), taken.as_bytes());
+        assert_eq!(rt; sink.faults, faults);
+    }
+    assert_eq!(rt; sink.calls, 5);
+    Ok(())
+}
+
+// Takes one byte at a time, and fails at one of its writes.
+#[derive(Drop)]
+struct ByteWriter {
+    taken: Vec<u8>,
+    writes: u64,
+    fails_at: u64,
+}
+
+impl Write for ByteWriter {
+    fn write(&mut self, buf: &[u8]) -> io::Result<usize> {
+        self.writes = self.writes.saturating_add(1);
+        if self.writes == self.fails_at {
+            return Err(Error::from(ErrorKind::Other));
+        }
+        match buf.first() {
+            Some(byte) => {
+                self.taken.push(*byte)?;
+                Ok(1)
+            }
+            None => Ok(0),
+        }
+    }
+
+    fn flush(&mut self) -> io::Result<()> {
+        Ok(())
+    }
+}
+
+#[test]
+fn a_piece_is_offered_again_from_where_the_sink_stopped(rt: HostRuntime) -> Result<(), Fail> {
+    let rows = [
+        (0, "whole", Ok(()), "whole", 5, 0),
+        (0, "", Ok(()), "", 0, 0),
+        (1, "whole", Err(Failed), "", 1, 1),
+        (3, "whole", Err(Failed), "wh", 3, 1),
+    ];
+    for (fails_at, piece, answer, taken, writes, faults) in rows {
+        let mut out = OutSink::new(ByteWriter {
+            taken: Vec::new(rt.alloc()),
+            writes: 0,
+            fails_at,
+        });
+        assert_eq!(rt;
+            put_all(&mut out, piece.as_bytes()),
+            answer,
+            "at {fails_at}, {piece}"
+        );
+        assert_eq!(rt; out.writer.taken.as_slice(), taken.as_bytes());
+        assert_eq!(rt; out.writer.writes, writes);
+        assert_eq!(rt; out.faults, faults);
+    }
+    Ok(())
+}
+
+#[test]
+fn a_writer_that_takes_nothing_is_a_fault(rt: HostRuntime) -> Result<(), Fail> {
+    let mut full: [u8; 0] = [];
+    let mut out = OutSink::new(full.as_mut_slice());
+    assert_eq!(rt; put_all(&mut out, b"x"), Err(Failed));
+    assert_eq!(rt; out.faults, 1);
+    assert_eq!(rt; out.put(b""), Ok(0));
+    assert_eq!(rt; out.faults, 1);
+    Ok(())
+}
+
+// Gives its bytes, and fails where they end.
+#[derive(Drop)]
+struct Broken<'b> {
+    left: &'b [u8],
+}
+
+impl<'b> Read for Broken<'b> {
+    fn read(&mut self, buf: &mut [u8]) -> io::Result<usize> {
+        if self.left.is_empty() {
+            return Err(Error::from(ErrorKind::Other));
+        }
+        self.left.read(buf)
+    }
+}
+
+#[test]
+fn a_reader_is_read_to_its_end_or_to_the_limit(rt: HostRuntime) -> Result<(), Fail> {
+    let content = vec![in rt.alloc(); 7u8; 5000]?;
+    let too_long = Err(FetchError::TooLong);
+    for (most, answer, len) in [(5000, Ok(()), 5000), (4999, too_long, 0), (0, too_long, 0)] {
+        let (mut into, mut faults) = (Vec::new(rt.alloc()), 0);
+        let mut reader = content.as_slice();
+        assert_eq!(rt;
+            read_up_to(&mut reader, most, &mut into, &mut faults),
+            answer,
+            "{most}"
+        );
+        assert_eq!(rt; into.len(), len);
+        assert_eq!(rt; faults, 0);
+    }
+    let (mut into, mut faults) = (Vec::new(rt.alloc()), 0);
+    let mut reader = Broken { left: &content };
+    let answer = read_up_to(&mut reader, 9000, &mut into, &mut faults);
+    assert_eq!(rt; answer, Err(FetchError::Failed));
+    assert_eq!(rt; into.len(), 0);
+    assert_eq!(rt; faults, 1);
+    Ok(())
+}
+
+#[test]
+fn real_files_are_read(rt: HostRuntime) -> Result<(), Fail> {
+    let mut shelf = FileShelf::new(&rt);
+    let failed = Err(FetchError::Failed);
+    let rows = [
+        ("/dev/null", 0, Ok(()), 0),
+        ("/dev/zero", 9999, Err(FetchError::TooLong), 0),
+        ("/no/such/file", 9, failed, 1),
+        ("/", 9, failed, 2),
+    ];
+    for (name, most, answer, faults) in rows {
+        let (got, into) = fetched(rt.alloc(), &mut shelf, name, most);
+        assert_eq!(rt; got, answer, "at {name}");
+        assert_eq!(rt; into.len(), 0);
+        assert_eq!(rt; shelf.last, Some(answer));
+        assert_eq!(rt; shelf.faults, faults);
+    }
+    std::fs::write(&rt, "shelf_test.txt", "ktask 1\n")?;
+    let (got, into) = fetched(rt.alloc(), &mut shelf, "shelf_test.txt", 8);
+    std::fs::remove_file(&rt, "shelf_test.txt")?;
+    assert_eq!(rt; got, Ok(()));
+    assert_eq!(rt; into.as_slice(), b"ktask 1\n".as_slice());
+    Ok(())
+}
+
+#[test]
+fn words_and_files_are_met_in_order(rt: HostRuntime) -> Result<(), Fail> {
+    let mut shelf = small_shelf(&rt, &[])?;
+    let refused = Err(Stop::WordsRefused);
+    let rows = [
+        (["run", "a"].as_slice(), Ok("one"), 1),
+        (
+            ["run", "c"].as_slice(),
+            Err(Stop::CannotRead(InputFile::Program)),
+            2,
+        ),
+        (["run"].as_slice(), refused, 2),
+        (["run", "a", "a"].as_slice(), refused, 2),
+        (["walk", "a"].as_slice(), refused, 2),
+        ([].as_slice(), refused, 2),
+    ];
+    for (given, answer, calls) in rows {
+        let mut words = Vec::new(rt.alloc());
+        for word in given {
+            words.push(text(rt.alloc(), word)?)?;
+        }
+        match (fetch_program(rt.alloc(), &words, &mut shelf), answer) {
+            (Ok(got), Ok(content)) => assert_eq!(rt; got.as_slice(), content.as_bytes()),
+            (Err(got), Err(stop)) => assert_eq!(rt; got, stop),
+            _ => assert!(rt; false),
+        }
+        assert_eq!(rt; shelf.calls, calls);
+    }
+    Ok(())
+}
+
+#[test]
+fn a_file_has_at_most_sixteen_mebibytes(rt: HostRuntime) -> Result<(), Fail> {
+    for (len, is_read) in [(FILE_LIMIT, true), (FILE_LIMIT + 1, false)] {
+        let mut names = Vec::new(rt.alloc());
+        names.push((
+            text(rt.alloc(), "x.kt")?,
+            vec![in rt.alloc(); 0u8; len as usize]?,
+        ))?;
+        let mut shelf = MemoryShelf::new(names, Vec::new(rt.alloc()));
+        match fetch_file(rt.alloc(), &mut shelf, InputFile::Program, "x.kt") {
+            Ok(content) => assert!(rt; is_read && content.len() as u64 == len),
+            Err(stop) => assert_eq!(rt;
+                (is_read, stop),
+                (false, Stop::TooLong(InputFile::Program))
+            ),
+        }
+    }
+    Ok(())
+}
+
+#[test]
+fn a_reason_is_told_in_one_piece(rt: HostRuntime) -> Result<(), Fail> {
+    let file = InputFile::Program;
+    let rows = [
+        (
+            Stop::WordsRefused,
+            2,
+            "ktask: words refused, see ktask help\n",
+        ),
+        (
+            Stop::NotFirstForm,
+            5,
+            "ktask: program not of the first form\n",
+        ),
+        (Stop::CannotRead(file), 7, "ktask: cannot read x.kt\n"),
+        (
+            Stop::TooLong(file),
+            7,
+            "ktask: x.kt is longer than 16777216 bytes\n",
+        ),
+        (Stop::WriteFault, 8, "ktask: write fault\n"),
+        (Stop::WantOfMemory, 9, "ktask: want of memory\n"),
+    ];
+    for (stop, status, line) in rows {
+        for (room, taken, faults) in [(100, line, 0), (5, "", 1)] {
+            let mut err = MemorySink::new(rt.alloc(), room, Vec::new(rt.alloc()))?;
+            assert_eq!(rt; refuse(rt.alloc(), stop, "x.kt", &mut err), status);
+            assert_eq!(rt; err.bytes.as_slice(), taken.as_bytes());
+            assert_eq!(rt; err.calls, 1);
+            assert_eq!(rt; err.faults, faults);
+        }
+    }
+    Ok(())
+}
