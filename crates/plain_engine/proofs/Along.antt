@@ -8,7 +8,8 @@ use Rattle.task_meaning.specs.Frame.{Place, set_number}
 use Rattle.task_meaning.specs.Meaning.{rest}
 use Rattle.task_meaning.specs.Acts.{Act, act_of, Steps, Calls, Gathers, Reads, Respawns, Finishes, follows, followed}
 use Rattle.task_meaning.proofs.ActByAct.{rest-follows}
-use Rattle.plain_engine.specs.Steps.{no_columns, settled_act, read_of, act_at, IsNext, Reaches, here, onward, StopsAt}
+use Rattle.task_syntax.specs.Columns.{no_columns}
+use Rattle.plain_engine.specs.Steps.{settled_act, read_of, act_at, IsNext, Reaches, here, onward, StopsAt}
 
 -- a future that has a value is read at once
 settled-follows : (p : Program) (less same : Place → Meant) (act : Act Value) (q : Place) → follows p less same act q ≡ follows p less same (settled_act act q) q

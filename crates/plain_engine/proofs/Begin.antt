@@ -26,7 +26,8 @@ use Rattle.task_meaning.specs.Arithmetic.{computed}
 use Rattle.task_meaning.specs.Acts.{act_of, steps_with}
 use Rattle.task_meaning.specs.Runs.{HasValue, IsReady}
 use Rattle.plain_engine.specs.Place.{IsPlaced, IsArgumentIn}
-use Rattle.plain_engine.specs.Steps.{no_columns, Reaches, here, onward, StartsMore}
+use Rattle.task_syntax.specs.Columns.{no_columns}
+use Rattle.plain_engine.specs.Steps.{Reaches, here, onward, StartsMore}
 use Rattle.plain_engine.specs.Steady.{IsSteady}
 use Rattle.plain_engine.specs.Stack.{IsCalling, IsRespawning, IsEvent}
 use Rattle.plain_engine.specs.declared.end.TheConstants.{LIMIT}

@@ -11,7 +11,8 @@ use Rattle.task_meaning.proofs.ActByAct.{rest-follows}
 use Rattle.task_meaning.proofs.Grows.{Stays, Stays-at, AllStay-refl, AllStay-set}
 use Rattle.task_meaning.proofs.Fuel.{rest-grows, mean-within}
 use Rattle.task_meaning.proofs.Complete.{complete-mean}
-use Rattle.plain_engine.specs.Steps.{no_columns, Reaches, StopsAt, DoesAt, StartsMore}
+use Rattle.task_syntax.specs.Columns.{no_columns}
+use Rattle.plain_engine.specs.Steps.{Reaches, StopsAt, DoesAt, StartsMore}
 use Rattle.plain_engine.proofs.Along.{reaches-rest, ends-rest}
 use Rattle.plain_engine.proofs.Roots.{plus-adds, some-same}
 use Rattle.plain_engine.proofs.OfRoot.{counted-one}

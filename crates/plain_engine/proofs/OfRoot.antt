@@ -12,7 +12,7 @@ use Rattle.task_meaning.specs.Meant.{Counts, counted}
 use Rattle.task_meaning.specs.Frame.{Place, Call, entry, variables_of, variables_in, padded}
 use Rattle.task_meaning.specs.Meaning.{rest, CallCounts}
 use Rattle.task_meaning.specs.Roots.{root_number, root_future, root_call}
-use Rattle.plain_engine.specs.Steps.{no_columns}
+use Rattle.task_syntax.specs.Columns.{no_columns}
 use Rattle.plain_engine.specs.Carried.{IsCarried, IsRootOf, IsRootRun, end_of}
 use Rattle.plain_engine.specs.declared.end.TheConstants.{LIMIT}
 use Rattle.plain_engine.proofs.Placed.{line-within}

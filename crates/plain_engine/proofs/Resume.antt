@@ -16,7 +16,7 @@ use Rattle.task_meaning.specs.Frame.{Place, Call, set_number, set_future, operan
 use Rattle.task_meaning.specs.Arithmetic.{computed}
 use Rattle.task_meaning.specs.Acts.{act_of, steps_with, Calls}
 use Rattle.plain_engine.specs.Place.{IsPlaced}
-use Rattle.plain_engine.specs.Steps.{no_columns}
+use Rattle.task_syntax.specs.Columns.{no_columns}
 use Rattle.plain_engine.specs.Steady.{IsSteady}
 use Rattle.plain_engine.specs.Stack.{IsWaiting, AllWait, FitsFirst}
 use Rattle.plain_engine.specs.declared.end.TheConstants.{LIMIT}

@@ -13,7 +13,7 @@ use Rattle.task_meaning.specs.Meant.{Meant, Counts, counted, plus, future_at, be
 use Rattle.task_meaning.specs.Frame.{Call}
 use Rattle.task_meaning.specs.Meaning.{mean, CallGives, CallCounts}
 use Rattle.task_meaning.specs.Roots.{root_number, root_future, root_call, values_of, mean_root, mean_roots, mean_roots_from, all_counts, roots_counts, RootGives}
-use Rattle.plain_engine.specs.Steps.{no_columns}
+use Rattle.task_syntax.specs.Columns.{no_columns}
 use Rattle.plain_engine.specs.Carried.{IsCounted, CallIsPast, RootEndsSo, IsRootRun}
 use Rattle.plain_engine.specs.SoundEnd.{counts_of_first, OfFirst, IsPastLimit, IsCutFrom, IsSoundRootEnd, IsValue, IsSoundEnd}
 use Rattle.plain_engine.specs.declared.end.TheConstants.{LIMIT}

@@ -24,7 +24,8 @@ use Rattle.task_meaning.specs.Frame.{Place, code_at, code_in, state_in, set_numb
 use Rattle.task_meaning.specs.Arithmetic.{computed}
 use Rattle.task_meaning.specs.Acts.{act_of, steps_with, Steps}
 use Rattle.plain_engine.specs.Place.{IsPlaced, NamesIn}
-use Rattle.plain_engine.specs.Steps.{no_columns, act_at, settled_act, read_of, NeedsTasks, IsNext, Reaches, here, onward, StopsAt, DoesAt, StartsMore}
+use Rattle.task_syntax.specs.Columns.{no_columns}
+use Rattle.plain_engine.specs.Steps.{act_at, settled_act, read_of, NeedsTasks, IsNext, Reaches, here, onward, StopsAt, DoesAt, StartsMore}
 use Rattle.plain_engine.specs.Steady.{IsSteady}
 use Rattle.plain_engine.specs.declared.end.TheConstants.{LIMIT}
 use Rattle.plain_engine.proofs.Placed.{IsAt, placed-at, fits, formed-state, moves, futures_after, placed-next}

@@ -10,7 +10,8 @@ use Rattle.task_meaning.specs.Meaning.{Gives, GivesCounts, CallGives}
 use Rattle.task_meaning.specs.Acts.{act_of, Calls}
 use Rattle.task_meaning.specs.Runs.{IsReady}
 use Rattle.plain_engine.specs.Place.{IsPlaced}
-use Rattle.plain_engine.specs.Steps.{no_columns, DoesAt}
+use Rattle.task_syntax.specs.Columns.{no_columns}
+use Rattle.plain_engine.specs.Steps.{DoesAt}
 use Rattle.plain_engine.specs.Steady.{IsSteady}
 use Rattle.plain_engine.specs.Carried.{IsPast, IsCarried, EndsSo}
 use Rattle.plain_engine.specs.Stack.{IsCalling, IsRespawning, IsEnding, IsRefused, EndsWith, IsStanding, GoesOn, called, respawned, resumed, IsResumed, IsTurn}

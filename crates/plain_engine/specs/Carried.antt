@@ -6,7 +6,7 @@ use Rattle.task_syntax.specs.declared.program.Root.{Root as RootLine}
 use Rattle.task_meaning.specs.Meant.{Counts}
 use Rattle.task_meaning.specs.Frame.{Place, Call}
 use Rattle.task_meaning.specs.Meaning.{Gives, GivesCounts, CallGives, CallCounts}
-use Rattle.plain_engine.specs.Steps.{no_columns}
+use Rattle.task_syntax.specs.Columns.{no_columns}
 use Rattle.plain_engine.specs.declared.end.TheConstants.{LIMIT}
 use Rattle.plain_engine.specs.declared.end.RootEnd.{RootEnd}
 use Rattle.plain_engine.specs.declared.end.RootEnd.TheVariants.{Value as Ended, Cut}

@@ -4,7 +4,7 @@ use Rattle.task_syntax.specs.Places.{Each, EachAt}
 use Rattle.task_syntax.specs.declared.program.Program.{Program}
 use Rattle.task_meaning.specs.Meant.{Counts}
 use Rattle.task_meaning.specs.Roots.{mean_roots, all_counts, roots_counts, RootGives}
-use Rattle.plain_engine.specs.Steps.{no_columns}
+use Rattle.task_syntax.specs.Columns.{no_columns}
 use Rattle.plain_engine.specs.RunEnd.{RunEnd}
 use Rattle.plain_engine.specs.declared.end.TheConstants.{LIMIT}
 use Rattle.plain_engine.specs.declared.end.RootEnd.{RootEnd}

@@ -1,7 +1,7 @@
 -- One step of a task on its own.
 use Rattle.std.specs.Prelude.{◌≡◌, ℕ, Option, Some, None, [], slice_get}
 use Rattle.task_syntax.specs.declared.value.Value.{Value}
-use Rattle.task_syntax.specs.declared.columns.Columns.{Columns}
+use Rattle.task_syntax.specs.Columns.{no_columns}
 use Rattle.task_syntax.specs.declared.instr.Instr.{Instr}
 use Rattle.task_meaning.specs.Meant.{future_at}
 use Rattle.task_syntax.specs.declared.instr.Line.{Line}
@@ -10,10 +10,6 @@ use Rattle.task_meaning.specs.Frame.{Place, code_at, set_number}
 use Rattle.task_meaning.specs.Acts.{JumpsAhead, Act, steps_with, act_of, Steps, Calls, Gathers, Reads, Respawns, Finishes}
 use Rattle.plain_engine.specs.declared.instruction.Step.{Step}
 use Rattle.plain_engine.specs.declared.instruction.Step.TheVariants.{Moved, Ended, Stands}
-
--- no column has a name
-abbrev pub no_columns : Columns
-no_columns = record { names = []; cells = [] }
 
 -- what a read of this future does
 abbrev pub read_of : Option Value → ℕ → ℕ → Place → Act Value

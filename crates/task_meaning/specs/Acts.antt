@@ -10,7 +10,8 @@ use Rattle.task_syntax.specs.declared.program.Program.{Program}
 use Rattle.task_syntax.specs.declared.columns.Columns.{Columns}
 use Rattle.task_meaning.specs.Meant.{Meant, counted, gives, adding, with_value, with_number, future_at, behind}
 use Rattle.task_meaning.specs.Frame.{FrameOf, CallOf, Place, code_at, enter, jump, go_on, set_number, set_future, operand, spawned, frame_with, call_with}
-use Rattle.task_meaning.specs.Arithmetic.{computed, compares, cell_at, rows_of}
+use Rattle.task_syntax.specs.Columns.{rows_of}
+use Rattle.task_meaning.specs.Arithmetic.{computed, compares, cell_at}
 use Rattle.task_meaning.specs.Meaning.{child_of, aggregate_of, with_child, rest}
 
 -- A task goes on in another frame of the same state, calls, gathers members, reads a future, respawns, or finishes.

@@ -1,6 +1,6 @@
 -- What the operations, the comparisons and the reads of columns give.
 use Rattle.std.specs.Prelude.{ℕ, ◌+◌, ◌-◌, ◌*◌, ◌/◌, ◌%◌, ◌^◌, Bool, cond, not, nat_lt, nat_le, nat_eq, Option, Some, None, List, [], ◌∷◌, length, slice_get}
-use Rattle.task_syntax.specs.Names.{same_bytes}
+use Rattle.task_syntax.specs.Columns.{cell_of}
 use Rattle.task_syntax.specs.declared.value.Value.{Value}
 use Rattle.task_syntax.specs.declared.value.Value.TheVariants.{Number, Trapped}
 use Rattle.task_syntax.specs.declared.value.Trap.{Trap}
@@ -30,24 +30,10 @@ compares AtMost a b = nat_le a b
 compares Equal a b = nat_eq a b
 compares Differs a b = not (nat_eq a b)
 
--- the cells beside the first of these names that is this one
-abbrev pub cells_beside : List ℕ → List (List ℕ) → List (List ℕ) → List ℕ
-cells_beside name [] cells = []
-cells_beside name (n ∷ names) [] = []
-cells_beside name (n ∷ names) (column ∷ columns) = cond (same_bytes name n) column (cells_beside name names columns)
-
--- the cells of a column; a name that is not there has none
-abbrev pub cells_of : Columns → List ℕ → List ℕ
-cells_of c name = cells_beside name c.names c.cells
-
--- the number of rows of a column
-abbrev pub rows_of : Columns → List ℕ → ℕ
-rows_of c name = length (cells_of c name)
-
 abbrev pub number_or : Trap → Option ℕ → Value
 number_or t None = Trapped t
 number_or t (Some n) = Number n
 
 -- the cell of a column in a row, counted from 0
 abbrev pub cell_at : Columns → List ℕ → ℕ → Value
-cell_at c name row = number_or NoRow (slice_get (cells_of c name) row)
+cell_at c name row = number_or NoRow (cell_of c name row)

@@ -10,7 +10,8 @@ use Rattle.task_syntax.specs.declared.program.Program.{Program}
 use Rattle.task_syntax.specs.declared.columns.Columns.{Columns}
 use Rattle.task_meaning.specs.Meant.{Counts, Meant, counted, nothing, gives, adding, with_value, with_number, future_at, behind, behind_all}
 use Rattle.task_meaning.specs.Frame.{Place, Call, code_at, entry, enter, jump, go_on, set_number, set_future, operand, spawned}
-use Rattle.task_meaning.specs.Arithmetic.{computed, compares, cell_at, rows_of}
+use Rattle.task_syntax.specs.Columns.{rows_of}
+use Rattle.task_meaning.specs.Arithmetic.{computed, compares, cell_at}
 
 -- what the child of a spawn means, where `less` is what places mean with one fuel less
 abbrev pub child_of : Program → (Place → Meant) → Option ℕ → Call → List (Option Value) → Meant

@@ -1,4 +1,5 @@
 pub mod Names
+pub mod Columns
 pub mod Places
 pub mod Form
 pub mod Facts

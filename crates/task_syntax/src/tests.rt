@@ -1,4 +1,4 @@
-use crate::{List, Name};
+use crate::{Columns, List, Name};
 use std::test::Fail;
 
 #[test]
@@ -20,5 +20,31 @@ fn a_name_is_its_bytes(rt: HostRuntime) -> Result<(), Fail> {
     let name = Name::new(b"a_name_of_24_bytes_a_top");
     assert_eq!(rt; name.as_bytes(), b"a_name_of_24_bytes_a_top".as_slice());
     assert_eq!(rt; name.copy().as_bytes(), name.as_bytes());
+    Ok(())
+}
+
+#[test]
+fn a_column_is_found_by_its_name(rt: HostRuntime) -> Result<(), Fail> {
+    let mut columns = Columns::none(rt.alloc());
+    assert_eq!(rt; columns.rows(&Name::new(b"price")), 0);
+    for (name, cell) in [
+        (b"id".as_slice(), 7u64),
+        (b"price".as_slice(), 30),
+        (b"id".as_slice(), 9),
+    ] {
+        let mut bytes = List::new(rt.alloc());
+        for byte in name {
+            bytes.push(*byte)?;
+        }
+        let mut cells = List::new(rt.alloc());
+        cells.push(cell)?;
+        columns.names.push(bytes)?;
+        columns.cells.push(cells)?;
+    }
+    assert_eq!(rt; columns.rows(&Name::new(b"price")), 1);
+    assert_eq!(rt; columns.cell(&Name::new(b"price"), 0), Some(30));
+    assert_eq!(rt; columns.cell(&Name::new(b"price"), 1), None);
+    assert_eq!(rt; columns.cell(&Name::new(b"id"), 0), Some(7));
+    assert_eq!(rt; columns.cell(&Name::new(b"pri"), 0), None);
     Ok(())
 }

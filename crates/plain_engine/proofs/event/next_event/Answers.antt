@@ -1,6 +1,6 @@
 use Rattle.std.proofs.Common.{refl}
 use Rattle.task_meaning.specs.Acts.{act_of}
-use Rattle.plain_engine.specs.Steps.{no_columns}
+use Rattle.task_syntax.specs.Columns.{no_columns}
 use Rattle.plain_engine.specs.Stack.{IsEvent}
 use Rattle.plain_engine.proofs.Steady.{steady-reached, starts-more, does}
 use Rattle.plain_engine.proofs.Begin.{event-from, if-ok}
