@@ -23,7 +23,7 @@ use Rattle.ktask_cli.specs.Count.{Rose}
 use Rattle.ktask_cli.specs.Outcome.{Answer, Reaches, Runs, Reports, FailsToReport, Concludes, Stops, RefusedFor}
 use Rattle.ktask_cli.specs.Plan.{Follows, plan_of}
 use Rattle.ktask_cli.specs.Ready.{ready_in, ready_from}
-use Rattle.task_syntax.specs.First.{is_first}
+use Rattle.first_form.specs.First.{is_first}
 use Rattle.task_text.specs.Fault.{number_of}
 use Rattle.task_text.specs.declared.fault.Fault.{Fault}
 use Rattle.task_reader.specs.Read.{program_in}

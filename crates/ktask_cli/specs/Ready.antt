@@ -1,6 +1,6 @@
 -- What a program's text comes to before it is run.
 use Rattle.std.specs.Prelude.{ℕ, cond, List, Result, Ok, Err}
-use Rattle.task_syntax.specs.First.{is_first}
+use Rattle.first_form.specs.First.{is_first}
 use Rattle.task_syntax.specs.declared.program.Program.{Program}
 use Rattle.task_text.specs.Fault.{number_of}
 use Rattle.task_text.specs.declared.fault.Fault.{Fault}

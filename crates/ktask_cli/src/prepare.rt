@@ -1,6 +1,6 @@
 ghost use Rattle.std.specs.Prelude.{◌≡◌, ◌⊎◌, ◌≤◌, Ok, Err, IfOk, length, map, string_bytes};
 ghost use Rattle.task_syntax.specs.Form.{IsWellFormed};
-ghost use Rattle.task_syntax.specs.First.{IsFirst};
+ghost use Rattle.first_form.specs.First.{IsFirst};
 ghost use Rattle.ktask_cli.specs.declared.stop.Stop.TheVariants.{WantOfMemory};
 ghost use Rattle.ktask_cli.specs.Choice.{choice_of};
 ghost use Rattle.ktask_cli.specs.Plan.{Follows, plan_of};
@@ -10,8 +10,9 @@ ghost use Rattle.ktask_cli.specs.Seen.{shelf_seen};
 use crate::fetch_file::{FILE_LIMIT, fetch_program};
 use crate::shelf::Shelf;
 use crate::stop::Stop;
+use first_form::first;
 use std::alloc::Global;
-use task_reader::{ReadError, first, read_program};
+use task_reader::{ReadError, read_program};
 use task_syntax::Checked;
 
 /// Reads a program of the first form.

@@ -1,7 +1,7 @@
 ghost use Rattle.std.specs.Prelude.{◌≡◌, [], IfOk, IfErr, IsNone, Some, length, map, string_bytes};
 ghost use Rattle.std.specs.Result.{result_map_both};
 ghost use Rattle.task_syntax.specs.Form.{IsWellFormed};
-ghost use Rattle.task_syntax.specs.First.{IsFirst};
+ghost use Rattle.first_form.specs.First.{IsFirst};
 ghost use Rattle.task_syntax.specs.declared.program.Program.{Program};
 ghost use Rattle.plain_engine.specs.SoundEnd.{IsSoundEnd};
 ghost use Rattle.ktask_cli.specs.declared.stop.Stop.{Stop as StopOf};

@@ -7,7 +7,7 @@ use Rattle.task_syntax.specs.Places.{Each}
 use Rattle.task_syntax.specs.Facts.{has, after, at_start}
 use Rattle.task_syntax.specs.Form.{IsWellFormed, IsFormedInstr, IsFormedArgument}
 use Rattle.task_syntax.specs.Valid.{starts, Held, WillSettle, SpawnsSoundly, RespawnsSoundly, IsSoundInstr, IsValid}
-use Rattle.task_syntax.specs.First.{IsFirst, is_first_kind, enters_empty, is_first_state}
+use Rattle.first_form.specs.First.{IsFirst, is_first_kind, enters_empty, is_first_state}
 use Rattle.task_syntax.proofs.Bools.{both, either}
 use Rattle.task_syntax.specs.declared.value.Value.{Value}
 use Rattle.task_syntax.specs.declared.value.Value.TheVariants as value

@@ -2,7 +2,7 @@
 use Rattle.std.proofs.Common.{◌≡◌, ℕ, zero, suc, ◌+◌, ◌<◌, ◌≤◌, true, ◌&&◌, Option, Some, None, List, [], ◌∷◌, ◌++◌, map, take, length, slice_get, refl, sym, ◌∙◌, ap, subst, ◌⊎◌, inl, inr, add-one, arith, append_assoc, length-append}
 use Rattle.std.specs.List.{list_all}
 use Rattle.task_syntax.specs.Places.{EachAt}
-use Rattle.task_syntax.specs.First.{IsFirst, is_first_kind, is_first_root, is_root_number, is_none, takes, is_regular}
+use Rattle.first_form.specs.First.{IsFirst, is_first_kind, is_first_root, is_root_number, is_none, takes, is_regular}
 use Rattle.task_syntax.proofs.Bools.{both}
 use Rattle.task_syntax.specs.declared.value.Value.{Value}
 use Rattle.task_syntax.specs.declared.program.RootArgument.{RootArgument}

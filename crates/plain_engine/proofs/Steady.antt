@@ -8,9 +8,9 @@ use Rattle.task_syntax.specs.Places.{instr_at}
 use Rattle.task_syntax.specs.Facts.{Facts, has, members_of, renewed, after}
 use Rattle.task_syntax.specs.Form.{IsWellFormed}
 use Rattle.task_syntax.specs.Valid.{Way, goes_on, jumps, JumpsTo, IsSoundInstr, IsSoundState, IsValid}
-use Rattle.task_syntax.specs.First.{IsFirst, is_first_kind, is_first_state, is_first_root, allows, allows_from}
+use Rattle.first_form.specs.First.{IsFirst, is_first_kind, is_first_state, is_first_root, allows, allows_from}
 use Rattle.task_syntax.proofs.Bools.{both, list_all-at}
-use Rattle.task_syntax.proofs.FirstWays.{allowed_at}
+use Rattle.first_form.proofs.FirstWays.{allowed_at}
 use Rattle.task_syntax.specs.declared.value.Value.{Value}
 use Rattle.task_syntax.specs.declared.value.Value.TheVariants.{Number, Trapped}
 use Rattle.task_syntax.specs.declared.instr.Instr.{Instr}

@@ -1,7 +1,7 @@
 ghost use Rattle.std.specs.Prelude.{◌≡◌, ◌<◌, ◌≤◌, IfOk, None, length, map};
 ghost use Rattle.task_syntax.specs.Form.{IsWellFormed};
 ghost use Rattle.task_syntax.specs.Valid.{IsValid};
-ghost use Rattle.task_syntax.specs.First.{IsFirst};
+ghost use Rattle.first_form.specs.First.{IsFirst};
 ghost use Rattle.task_syntax.specs.Places.{Each};
 ghost use Rattle.task_meaning.specs.Frame.{number_passed, future_passed};
 ghost use Rattle.plain_engine.specs.Place.{IsArgumentIn, IsPlaced};

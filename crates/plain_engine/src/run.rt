@@ -1,7 +1,7 @@
 ghost use Rattle.std.specs.Prelude.{◌≡◌, ℕ, ◌≤◌, [], map, IfOk, Contains, Some, slice_get};
 ghost use Rattle.task_syntax.specs.Form.{IsWellFormed};
 ghost use Rattle.task_syntax.specs.Valid.{IsValid};
-ghost use Rattle.task_syntax.specs.First.{IsFirst};
+ghost use Rattle.first_form.specs.First.{IsFirst};
 ghost use Rattle.task_meaning.specs.Roots.{root_number, root_call};
 ghost use Rattle.plain_engine.specs.Place.{IsPlaced};
 ghost use Rattle.plain_engine.specs.Carried.{IsCarried, IsRootOf, IsRootRun, end_of};

@@ -1,7 +1,7 @@
 ghost use Rattle.std.specs.Prelude.{◌≡◌, ◌≤◌, IfOk, [], ◌∷◌};
 ghost use Rattle.task_syntax.specs.Form.{IsWellFormed};
 ghost use Rattle.task_syntax.specs.Valid.{IsValid};
-ghost use Rattle.task_syntax.specs.First.{IsFirst};
+ghost use Rattle.first_form.specs.First.{IsFirst};
 ghost use Rattle.plain_engine.specs.Stack.{FitsFirst, IsResumed, IsStanding, IsTurn};
 
 use crate::end::LIMIT;

@@ -5,7 +5,6 @@
 
 mod ahead;
 mod error;
-mod first_form;
 mod instr;
 mod kind;
 mod lists;
@@ -20,5 +19,4 @@ mod unknown;
 mod uses;
 
 pub use error::ReadError;
-pub use first_form::first;
 pub use reading::read_program;

@@ -1,4 +1,2 @@
 pub mod Bools
 pub mod Differ
-pub mod FirstWays
-pub mod FirstForm

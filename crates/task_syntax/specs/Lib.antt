@@ -4,4 +4,3 @@ pub mod Places
 pub mod Form
 pub mod Facts
 pub mod Valid
-pub mod First

@@ -6,7 +6,6 @@
 mod checked;
 mod columns;
 mod instr;
-mod laws;
 mod list;
 mod memory;
 mod name;
@@ -18,7 +17,6 @@ mod value;
 pub use checked::Checked;
 pub use columns::Columns;
 pub use instr::{Argument, Instr, Line, MathOp, Operand, Relation};
-pub use laws::first_form_is_valid;
 pub use list::List;
 pub use memory::Memory;
 pub use name::Name;

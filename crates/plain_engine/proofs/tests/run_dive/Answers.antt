@@ -1,7 +1,7 @@
 use Rattle.std.proofs.Common.{refl, sym, ◌∙◌, subst}
 use Rattle.task_syntax.specs.Form.{IsWellFormed}
-use Rattle.task_syntax.specs.First.{IsFirst}
-use Rattle.task_syntax.proofs.FirstForm.{IsFirst-valid}
+use Rattle.first_form.specs.First.{IsFirst}
+use Rattle.first_form.proofs.FirstForm.{IsFirst-valid}
 use Rattle.task_syntax.specs.declared.program.Program.{Program}
 use Rattle.plain_engine.proofs.Formed.{dive-formed}
 use Rattle.plain_engine.proofs.tests.run_dive.Goals as goal

@@ -1,4 +1,4 @@
-ghost use Rattle.task_syntax.specs.First.{FirstFormIsValid};
+ghost use Rattle.first_form.specs.First.{FirstFormIsValid};
 
 /// The law that a well-formed program of the first form is valid. It does nothing when it runs.
 pub fn first_form_is_valid()

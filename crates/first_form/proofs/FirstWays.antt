@@ -7,7 +7,7 @@ use Rattle.task_syntax.specs.Places.{instr_at}
 use Rattle.task_syntax.specs.Facts.{Facts, has, without, after}
 use Rattle.task_syntax.specs.Form.{IsFormedState, IsFormedInstr, IsLabel}
 use Rattle.task_syntax.specs.Valid.{Way, starts, unreached, goes_on, jumps, JumpsTo}
-use Rattle.task_syntax.specs.First.{spawns_to, spawns_instr, label_instr, is_label, spawned_before, is_available, is_settled, is_unlabelled, allows, allows_from}
+use Rattle.first_form.specs.First.{spawns_to, spawns_instr, label_instr, is_label, spawned_before, is_available, is_settled, is_unlabelled, allows, allows_from}
 use Rattle.task_syntax.specs.declared.instr.Instr.{Instr}
 use Rattle.task_syntax.specs.declared.instr.Instr.TheVariants.{Set, Math, If, Goto, Label, Cell, Rows, Spawn, All, Copy, Drop, Get, Again, Done}
 use Rattle.task_syntax.specs.declared.instr.Line.{Line}

@@ -3,7 +3,7 @@ ghost use Rattle.std.specs.Prelude.{take, ◌≡◌, ◌≤◌, ◌+◌, ◌<◌
 ghost use Rattle.std.specs.Option.{option_copied};
 ghost use Rattle.task_syntax.specs.Facts.{has};
 ghost use Rattle.task_syntax.specs.Form.{IsWellFormed};
-ghost use Rattle.task_syntax.specs.First.{IsFirst, is_first, is_first_kind, is_first_root, is_first_state, allows, allows_from, takes, is_number, is_root_number, is_number_variable, enters_empty, is_available, is_settled, is_unlabelled, spawned_before, keeps_available, respawns_available, is_sum, is_regular, spawns_to, is_label};
+ghost use Rattle.first_form.specs.First.{IsFirst, is_first, is_first_kind, is_first_root, is_first_state, allows, allows_from, takes, is_number, is_root_number, is_number_variable, enters_empty, is_available, is_settled, is_unlabelled, spawned_before, keeps_available, respawns_available, is_sum, is_regular, spawns_to, is_label};
 
 use task_syntax::{
     Argument, Checked, Instr, Kind, Line, MathOp, Priority, Program, Root, RootArgument, Sort,

@@ -5,8 +5,8 @@ use Rattle.std.specs.List.{list_all}
 use Rattle.task_syntax.specs.Facts.{Facts, has}
 use Rattle.task_syntax.specs.Form.{IsWellFormed, IsFormedState, IsFormedKind, IsLabel}
 use Rattle.task_syntax.specs.Valid.{Way, sort_of, sort_of_root, Agrees, HeldArgument, WillSettleArgument, SpawnsSoundly, RespawnsSoundly, IsSoundInstr, IsSoundState, IsSoundKind, IsSoundRoot, IsBehind, IsValid}
-use Rattle.task_syntax.specs.First.{is_available, is_settled, is_unlabelled, keeps_available, respawns_available, allows, allows_from, takes, is_number, is_number_variable, is_none, is_regular, is_first_state, enters_empty, is_first_kind, is_first_root, is_root_number, IsFirst}
-use Rattle.task_syntax.proofs.FirstWays.{Meets, IsFirstState, allowed_at, meets-at}
+use Rattle.first_form.specs.First.{is_available, is_settled, is_unlabelled, keeps_available, respawns_available, allows, allows_from, takes, is_number, is_number_variable, is_none, is_regular, is_first_state, enters_empty, is_first_kind, is_first_root, is_root_number, IsFirst}
+use Rattle.first_form.proofs.FirstWays.{Meets, IsFirstState, allowed_at, meets-at}
 use Rattle.std.proofs.lemmas.Option.{slice_get_within}
 use Rattle.task_syntax.specs.declared.instr.Argument.{Argument}
 use Rattle.task_syntax.specs.declared.instr.Argument.TheVariants as argument

@@ -1,6 +1,6 @@
 use Rattle.std.proofs.Common.{◌≡◌, subst, ap, length, get_or}
 use Rattle.std.proofs.lemmas.Option.{slice_get_read}
-use Rattle.task_reader.proofs.first_form.are_first_kinds.Goals as goal
+use Rattle.first_form.proofs.form.are_first_kinds.Goals as goal
 
 pub is_first_kind-requires : goal.is_first_kind-requires
 is_first_kind-requires c = (c.requires.kinds c.loop-at.at c.index-kinds-at.result

@@ -1,0 +1,2 @@
+pub mod FirstWays
+pub mod FirstForm
