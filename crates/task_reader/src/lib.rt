@@ -15,6 +15,8 @@ mod program;
 mod reading;
 mod root;
 mod state;
+#[cfg(test)]
+mod tests;
 mod unknown;
 mod uses;
 
