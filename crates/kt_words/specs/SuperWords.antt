@@ -1,0 +1,27 @@
+-- A superblock's word: its count in the lowest 16 bits, its class in 4, and above these how often it was reserved.
+use Rattle.std.specs.Prelude.{ℕ, ◌+◌, ◌*◌, ◌/◌, ◌%◌, ◌^◌, ◌<◌, ◌≤◌}
+use Rattle.kt_words.specs.declared.super_word.SuperWord.{SuperWord}
+
+-- the numbers that a word has room for
+pub record FitsSuperWord (value : SuperWord) : Type 0 where
+  pub count_fits : value.count < 2 ^ 16
+  pub class_fits : value.class ≤ 3
+  pub ever_fits : value.ever < 2 ^ 44
+
+-- the word of three numbers
+abbrev pub super_word : ℕ → ℕ → ℕ → ℕ
+super_word count class ever = count + 65536 * class + 1048576 * ever
+
+-- the word of a value
+abbrev pub packed_super : SuperWord → ℕ
+packed_super value = super_word value.count value.class value.ever
+
+-- the numbers of a word
+abbrev pub count_of : ℕ → ℕ
+count_of word = word % 65536
+
+abbrev pub class_of : ℕ → ℕ
+class_of word = word / 65536 % 16
+
+abbrev pub ever_of : ℕ → ℕ
+ever_of word = word / 1048576
