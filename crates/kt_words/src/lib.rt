@@ -4,7 +4,17 @@
 #![tactic(auto)]
 
 mod geometry;
+mod head_word;
+mod phase;
+mod plan;
+mod state_word;
 mod super_word;
+mod tag;
 
 pub use geometry::Geometry;
+pub use head_word::HeadWord;
+pub use phase::Phase;
+pub use plan::Plan;
+pub use state_word::StateWord;
 pub use super_word::SuperWord;
+pub use tag::Tag;

@@ -1,0 +1,59 @@
+ghost use Rattle.std.specs.Prelude.{◌≡◌, ◌≤◌, ◌↔◌, IsSome, IfSome};
+ghost use Rattle.kt_words.specs.HeadWords.{FitsHeadWord, IsHeadWord, ReadsHead, packed_head};
+ghost use Rattle.kt_words.specs.declared.head_word.HeadWord.{HeadWord};
+
+/// The head of a list of waiting tasks.
+#[derive(Debug, Clone, Copy, PartialEq, Eq)]
+pub enum HeadWord {
+    /// The list is open.
+    Listed {
+        /// The unit of the first that waits, below 2^20 - 1.
+        first: Option<u32>,
+        /// How many wait, below 2^22.
+        length: u32,
+    },
+    /// Nothing more is put on the list.
+    Closed,
+}
+
+const CLOSED: u64 = 1 << 63;
+
+impl HeadWord {
+    /// The word that says this.
+    pub fn pack(self) -> u64
+        requires { FitsHeadWord self }
+        ensures { result ≡ packed_head self }
+    {
+        match self {
+            HeadWord::Listed { first, length } => {
+                let link = match first {
+                    Some(unit) => unit + 1,
+                    None => 0,
+                };
+                u64::from(link) + 1_048_576 * u64::from(length)
+            }
+            HeadWord::Closed => CLOSED,
+        }
+    }
+
+    /// What the word says, where it is the word of such a head.
+    pub fn unpack(word: u64) -> Option<HeadWord>
+        ensures packed { IfSome result (λ value. FitsHeadWord value × (packed_head value ≡ word)) }
+        ensures every { (value : HeadWord) → FitsHeadWord value → packed_head value ≡ word → result ≡ Some value }
+        ensures exactly { IsSome result ↔ IsHeadWord word }
+        ensures numbers { IfSome result (λ value. ReadsHead word value) }
+    {
+        if word == CLOSED {
+            return Some(HeadWord::Closed);
+        }
+        let length = word / 1_048_576;
+        if length >= 4_194_304 {
+            return None;
+        }
+        let link = (word % 1_048_576) as u32;
+        Some(HeadWord::Listed {
+            first: link.checked_sub(1),
+            length: length as u32,
+        })
+    }
+}

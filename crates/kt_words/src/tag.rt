@@ -1,0 +1,55 @@
+ghost use Rattle.std.specs.Prelude.{◌≡◌, ◌≤◌, ◌↔◌, IsSome, IfSome};
+ghost use Rattle.kt_words.specs.StateWords.{tag_code};
+ghost use Rattle.kt_words.specs.declared.tag.Tag.{Tag};
+
+/// What a task's record has for a result.
+#[derive(Debug, Clone, Copy, PartialEq, Eq)]
+pub enum Tag {
+    /// Nothing yet.
+    Unset,
+    /// A number.
+    Number,
+    /// A trap: a sum, difference or product outside the 64-bit numbers.
+    Overflow,
+    /// A trap: a division or remainder by 0.
+    Divide,
+    /// A trap: a row of a column that is not there.
+    NoRow,
+    /// Cut, since the pool had no block.
+    Null,
+    /// Cut, since the limit of activations was met.
+    Limit,
+}
+
+impl Tag {
+    pub(crate) fn code(self) -> u8
+        ensures { result ≡ tag_code self }
+    {
+        match self {
+            Tag::Unset => 0,
+            Tag::Number => 1,
+            Tag::Overflow => 2,
+            Tag::Divide => 3,
+            Tag::NoRow => 4,
+            Tag::Null => 5,
+            Tag::Limit => 6,
+        }
+    }
+
+    pub(crate) fn from_code(code: u8) -> Option<Tag>
+        ensures coded { IfSome result (λ tag. tag_code tag ≡ code) }
+        ensures every { (tag : Tag) → tag_code tag ≡ code → result ≡ Some tag }
+        ensures exactly { IsSome result ↔ (code ≤ 6) }
+    {
+        match code {
+            0 => Some(Tag::Unset),
+            1 => Some(Tag::Number),
+            2 => Some(Tag::Overflow),
+            3 => Some(Tag::Divide),
+            4 => Some(Tag::NoRow),
+            5 => Some(Tag::Null),
+            6 => Some(Tag::Limit),
+            _ => None,
+        }
+    }
+}
