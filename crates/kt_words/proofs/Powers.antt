@@ -79,6 +79,15 @@ by_test n e = elim (or_cases (n == 8) _ e) [
       ])
 ]
 
+passes_as_unit_count : (units : ℕ) → IsUnitCount units → is_unit_count units ≡ true
+passes_as_unit_count units (inl e) = rw e refl
+passes_as_unit_count units (inr (inl e)) = rw e refl
+passes_as_unit_count units (inr (inr (inl e))) = rw e refl
+passes_as_unit_count units (inr (inr (inr (inl e)))) = rw e refl
+passes_as_unit_count units (inr (inr (inr (inr (inl e))))) = rw e refl
+passes_as_unit_count units (inr (inr (inr (inr (inr (inl e)))))) = rw e refl
+passes_as_unit_count units (inr (inr (inr (inr (inr (inr e)))))) = rw e refl
+
 -- below 513, the numbers from 8 on with one bit set are the seven
 abbrev is_large_power : ℕ → Bool
 is_large_power n = nat_le 8 n && is_power_of_two n
@@ -106,3 +115,7 @@ passes_at_units units passes low high e = (
   λ yes. (low, high, power_of_passes units low high (sym e ∙ yes)),
   λ has. e ∙ passes_of_power units has,
 )
+
+-- also where only that there is an exponent is known, since the test tells which of the seven it is
+pub unit_count_merely : (units : ℕ) → (8 ≤ units) × (units ≤ 512) → ∥ IsPowerOfTwo units ∥₁ → IsUnitCount units
+unit_count_merely units fits power = by_test units (∥∥₁_elim power (hlevel props) (λ p. passes_as_unit_count units (unit_count units (fits.0, fits.1, p))))

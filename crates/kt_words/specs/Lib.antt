@@ -3,3 +3,7 @@ pub mod Capacity
 pub mod SuperWords
 pub mod StateWords
 pub mod HeadWords
+pub mod SuperWordLaws
+pub mod StateWordLaws
+pub mod HeadWordLaws
+pub mod GeometryLaws

@@ -1,5 +1,5 @@
 -- A superblock's word: its count in the lowest 16 bits, its class in 4, and above these how often it was reserved.
-use Rattle.std.specs.Prelude.{ℕ, ◌+◌, ◌*◌, ◌/◌, ◌%◌, ◌^◌, ◌<◌, ◌≤◌}
+use Rattle.std.specs.Prelude.{ℕ, ◌+◌, ◌*◌, ◌/◌, ◌%◌, ◌^◌, ◌<◌, ◌≤◌, min}
 use Rattle.kt_words.specs.declared.super_word.SuperWord.{SuperWord}
 
 -- the numbers that a word has room for
@@ -15,6 +15,10 @@ super_word count class ever = count + 65536 * class + 1048576 * ever
 -- the word of a value
 abbrev pub packed_super : SuperWord → ℕ
 packed_super value = super_word value.count value.class value.ever
+
+-- how often a superblock was reserved, once more: it stands still at the greatest number that fits
+abbrev pub risen : ℕ → ℕ
+risen ever = min (ever + 1) 17592186044415
 
 -- the numbers of a word
 abbrev pub count_of : ℕ → ℕ

@@ -36,6 +36,7 @@ impl Geometry {
     }
 }
 
+#[tactic(auto, using(crate::proofs::Powers::passes_at_units))]
 fn has_units(units: u32) -> bool
     ensures { IsTrue result ↔ HasUnits units }
 {

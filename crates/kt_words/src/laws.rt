@@ -1,0 +1,65 @@
+ghost use Rattle.kt_words.specs.GeometryLaws.{UnitsByName, BlocksFill, BlocksEndInside, NumbersMakeGeometry};
+ghost use Rattle.kt_words.specs.SuperWordLaws.{SuperWordSaysItsNumbers, SuperWordIsItsNumbers, SuperWordSaysItsValue, SuperWordHasOneValue, SuperWordFits, CountRises, CountFalls, EverRises, ClassChanges, WordReserves};
+ghost use Rattle.kt_words.specs.StateWordLaws.{StateWordSaysItsNumbers, StateWordIsItsNumbers, StateWordSaysItsValue, StateWordHasOneValue, PhaseHasOneCode, TagHasOneCode, PhaseChanges, PriorityChanges, TagChanges, NumberChanges};
+ghost use Rattle.kt_words.specs.HeadWordLaws.{HeadWordSaysItsNumbers, HeadWordIsItsNumbers, HeadWordSaysItsValue, HeadWordHasOneValue, LinkHasOneCode, ListedIsNotClosed, LengthRises, LengthFalls, FirstChanges};
+
+/// What each geometry keeps.
+pub fn geometries()
+    ensures units { UnitsByName }
+    ensures fill { BlocksFill }
+    ensures inside { BlocksEndInside }
+    ensures numbers { NumbersMakeGeometry }
+{}
+
+/// A superblock's word and its numbers say the same.
+pub fn super_words()
+    ensures says { SuperWordSaysItsNumbers }
+    ensures is { SuperWordIsItsNumbers }
+    ensures value { SuperWordSaysItsValue }
+    ensures one_value { SuperWordHasOneValue }
+    ensures fits { SuperWordFits }
+{}
+
+/// What a superblock's word becomes.
+pub fn super_words_change()
+    ensures more { CountRises }
+    ensures less { CountFalls }
+    ensures ever { EverRises }
+    ensures class { ClassChanges }
+    ensures reserved { WordReserves }
+{}
+
+/// A state's word and its numbers say the same.
+pub fn state_words()
+    ensures says { StateWordSaysItsNumbers }
+    ensures is { StateWordIsItsNumbers }
+    ensures value { StateWordSaysItsValue }
+    ensures one_value { StateWordHasOneValue }
+    ensures phases { PhaseHasOneCode }
+    ensures tags { TagHasOneCode }
+{}
+
+/// What a state's word becomes.
+pub fn state_words_change()
+    ensures phase { PhaseChanges }
+    ensures priority { PriorityChanges }
+    ensures tag { TagChanges }
+    ensures number { NumberChanges }
+{}
+
+/// The head of a waiting list and its numbers say the same.
+pub fn head_words()
+    ensures says { HeadWordSaysItsNumbers }
+    ensures is { HeadWordIsItsNumbers }
+    ensures value { HeadWordSaysItsValue }
+    ensures one_value { HeadWordHasOneValue }
+    ensures links { LinkHasOneCode }
+    ensures open { ListedIsNotClosed }
+{}
+
+/// What the head of a waiting list becomes.
+pub fn head_words_change()
+    ensures more { LengthRises }
+    ensures less { LengthFalls }
+    ensures first { FirstChanges }
+{}
