@@ -1,0 +1,3 @@
+mod Examples
+pub mod TotalFacts
+pub mod BelowFacts
