@@ -40,6 +40,12 @@ state_word_is_its_numbers word = omega arith
 pub state_word_says_its_value : StateWordSaysItsValue
 state_word_says_its_value value fits = (
   state_word_says_its_numbers (phase_code value.phase) value.priority (tag_code value.tag) value.number (omega (arith, phase_code_fits value.phase)) (omega (arith, fits.priority_fits)) (omega (arith, tag_code_fits value.tag)),
+  record {
+    phase_fits = omega (arith, phase_code_fits value.phase);
+    priority_fits = omega (arith, phase_code_fits value.phase, fits.priority_fits);
+    tag_fits = omega (arith, phase_code_fits value.phase, tag_code_fits value.tag, fits.priority_fits);
+    number_fits = omega (arith, phase_code_fits value.phase, tag_code_fits value.tag, fits.priority_fits, fits.number_fits);
+  },
   omega (arith, phase_code_fits value.phase, tag_code_fits value.tag, fits.priority_fits, fits.number_fits),
 )
 

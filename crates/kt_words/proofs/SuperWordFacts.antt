@@ -1,6 +1,6 @@
 -- The laws of the words of superblocks, by name.
 use Rattle.std.proofs.Common.{◌≡◌, arith}
-use Rattle.kt_words.specs.SuperWordLaws.{SuperWordSaysItsNumbers, SuperWordIsItsNumbers, SuperWordSaysItsValue, SuperWordHasOneValue, SuperWordFits, CountRises, CountFalls, EverRises, ClassChanges, WordReserves}
+use Rattle.kt_words.specs.SuperWordLaws.{SuperWordSaysItsNumbers, SuperWordIsItsNumbers, SuperWordSaysItsValue, SuperWordHasOneValue, SuperWordFits, CountRises, CountFalls, EverRises, ClassChanges, WordReserves, WordReservesSame}
 
 pub super_word_says_its_numbers : SuperWordSaysItsNumbers
 super_word_says_its_numbers count class ever a b = record { count_is = omega arith; class_is = omega arith; ever_is = omega arith }
@@ -9,7 +9,11 @@ pub super_word_is_its_numbers : SuperWordIsItsNumbers
 super_word_is_its_numbers word = omega arith
 
 pub super_word_says_its_value : SuperWordSaysItsValue
-super_word_says_its_value value fits = super_word_says_its_numbers value.count value.class value.ever (omega (arith, fits.count_fits)) (omega (arith, fits.class_fits))
+super_word_says_its_value value fits = (
+  super_word_says_its_numbers value.count value.class value.ever (omega (arith, fits.count_fits)) (omega (arith, fits.class_fits)),
+  omega (arith, fits.count_fits, fits.class_fits),
+  omega (arith, fits.count_fits, fits.class_fits, fits.ever_fits),
+)
 
 pub super_word_has_one_value : SuperWordHasOneValue
 super_word_has_one_value one other fits fits' e =
@@ -36,3 +40,6 @@ class_changes word class fits = record { count_is = omega arith; class_is = omeg
 pub word_reserves : WordReserves
 word_reserves word class below fits =
     (record { count_is = omega arith; class_is = omega arith; ever_is = omega arith }, omega arith)
+
+pub word_reserves_same : WordReservesSame
+word_reserves_same word below rises = omega arith

@@ -26,9 +26,9 @@ abbrev pub packed_head : HeadWord → ℕ
 packed_head Closed = closed_word
 packed_head (Listed first length) = head_word (link_code first) length
 
--- the numbers of a word that is not closed
-abbrev pub first_of : ℕ → ℕ
-first_of word = word % 1048576
+-- the link and the length of a word that is not closed; of a closed one they say nothing
+abbrev pub link_of : ℕ → ℕ
+link_of word = word % 1048576
 
 abbrev pub length_of : ℕ → ℕ
 length_of word = word / 1048576
@@ -36,7 +36,7 @@ length_of word = word / 1048576
 -- the value has the numbers of the word
 abbrev pub ReadsHead : ℕ → HeadWord → Type 0
 ReadsHead word Closed = word ≡ closed_word
-ReadsHead word (Listed first length) = (link_code first ≡ first_of word) × (length ≡ length_of word)
+ReadsHead word (Listed first length) = (link_code first ≡ link_of word) × (length ≡ length_of word)
 
 -- the words that are closed or have both numbers in their ranges
 abbrev pub IsHeadWord : ℕ → Type 0

@@ -1,6 +1,6 @@
 -- Laws of the words of states, as numbers.
 use Rattle.std.specs.Prelude.{◌≡◌, ℕ, ◌+◌, ◌-◌, ◌*◌, ◌^◌, ◌<◌}
-use Rattle.kt_words.specs.StateWords.{FitsStateWord, state_word, packed_state, phase_code, tag_code, phase_of, priority_of, tag_of, number_of}
+use Rattle.kt_words.specs.StateWords.{FitsStateWord, IsStateWord, state_word, packed_state, phase_code, tag_code, phase_of, priority_of, tag_of, number_of}
 use Rattle.kt_words.specs.declared.phase.Phase.{Phase}
 use Rattle.kt_words.specs.declared.tag.Tag.{Tag}
 use Rattle.kt_words.specs.declared.state_word.StateWord.{StateWord}
@@ -20,10 +20,10 @@ StateWordSaysItsNumbers = (phase priority tag number : ℕ) → phase < 8 → pr
 abbrev pub StateWordIsItsNumbers : Type 0
 StateWordIsItsNumbers = (word : ℕ) → state_word (phase_of word) (priority_of word) (tag_of word) (number_of word) ≡ word
 
--- a value's word says the value's numbers, and has 32 bits
+-- a value's word says the value's numbers, each in its range, and has 32 bits
 abbrev pub StateWordSaysItsValue : Type 0
 StateWordSaysItsValue = (value : StateWord) → FitsStateWord value
-    → StateWordSays (packed_state value) (phase_code value.phase) value.priority (tag_code value.tag) value.number × (packed_state value < 2 ^ 32)
+    → StateWordSays (packed_state value) (phase_code value.phase) value.priority (tag_code value.tag) value.number × IsStateWord (packed_state value) × (packed_state value < 2 ^ 32)
 
 -- two values that fit and have one word are one value
 abbrev pub StateWordHasOneValue : Type 0

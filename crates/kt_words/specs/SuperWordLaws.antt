@@ -1,6 +1,6 @@
 -- Laws of the words of superblocks, as numbers.
 use Rattle.std.specs.Prelude.{◌≡◌, ◌↔◌, ℕ, ◌+◌, ◌-◌, ◌*◌, ◌^◌, ◌<◌}
-use Rattle.kt_words.specs.SuperWords.{FitsSuperWord, super_word, packed_super, risen, count_of, class_of, ever_of}
+use Rattle.kt_words.specs.SuperWords.{FitsSuperWord, IsSuperWord, super_word, packed_super, most_ever, risen, count_of, class_of, ever_of}
 use Rattle.kt_words.specs.declared.super_word.SuperWord.{SuperWord}
 
 -- the word has these numbers
@@ -16,9 +16,10 @@ SuperWordSaysItsNumbers = (count class ever : ℕ) → count < 65536 → class <
 abbrev pub SuperWordIsItsNumbers : Type 0
 SuperWordIsItsNumbers = (word : ℕ) → super_word (count_of word) (class_of word) (ever_of word) ≡ word
 
--- a value's word says the value's numbers
+-- a value's word says the value's numbers, each in its range, and has 64 bits
 abbrev pub SuperWordSaysItsValue : Type 0
-SuperWordSaysItsValue = (value : SuperWord) → FitsSuperWord value → SuperWordSays (packed_super value) value.count value.class value.ever
+SuperWordSaysItsValue = (value : SuperWord) → FitsSuperWord value
+    → SuperWordSays (packed_super value) value.count value.class value.ever × IsSuperWord (packed_super value) × (packed_super value < 2 ^ 64)
 
 -- two values that fit and have one word are one value
 abbrev pub SuperWordHasOneValue : Type 0
@@ -51,3 +52,7 @@ reserved_word word class = super_word (count_of word + 1) class (risen (ever_of 
 abbrev pub WordReserves : Type 0
 WordReserves = (word class : ℕ) → count_of word < 65535 → class < 16
     → SuperWordSays (reserved_word word class) (count_of word + 1) class (risen (ever_of word)) × (reserved_word word class < 2 ^ 64)
+
+-- where the class stays and the last number still rises, a reservation adds one to each of the two numbers
+abbrev pub WordReservesSame : Type 0
+WordReservesSame = (word : ℕ) → count_of word < 65535 → ever_of word < most_ever → reserved_word word (class_of word) ≡ word + 1 + 1048576

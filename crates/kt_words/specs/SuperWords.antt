@@ -16,9 +16,13 @@ super_word count class ever = count + 65536 * class + 1048576 * ever
 abbrev pub packed_super : SuperWord → ℕ
 packed_super value = super_word value.count value.class value.ever
 
--- how often a superblock was reserved, once more: it stands still at the greatest number that fits
+-- the greatest number of reservations that is told
+abbrev pub most_ever : ℕ
+most_ever = 17592186044415
+
+-- how often a superblock was reserved, once more: it stands still at the greatest number
 abbrev pub risen : ℕ → ℕ
-risen ever = min (ever + 1) 17592186044415
+risen ever = min (ever + 1) most_ever
 
 -- the numbers of a word
 abbrev pub count_of : ℕ → ℕ
@@ -29,3 +33,7 @@ class_of word = word / 65536 % 16
 
 abbrev pub ever_of : ℕ → ℕ
 ever_of word = word / 1048576
+
+-- the words of which each number is in its range
+abbrev pub IsSuperWord : ℕ → Type 0
+IsSuperWord word = class_of word ≤ 3

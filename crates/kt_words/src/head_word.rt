@@ -22,7 +22,8 @@ impl HeadWord {
     /// The word that says this.
     pub fn pack(self) -> u64
         requires { FitsHeadWord self }
-        ensures { result ≡ packed_head self }
+        ensures packed { result ≡ packed_head self }
+        ensures word { IsHeadWord result }
     {
         match self {
             HeadWord::Listed { first, length } => {

@@ -1,5 +1,5 @@
-ghost use Rattle.kt_words.specs.GeometryLaws.{UnitsByName, BlocksFill, BlocksEndInside, NumbersMakeGeometry};
-ghost use Rattle.kt_words.specs.SuperWordLaws.{SuperWordSaysItsNumbers, SuperWordIsItsNumbers, SuperWordSaysItsValue, SuperWordHasOneValue, SuperWordFits, CountRises, CountFalls, EverRises, ClassChanges, WordReserves};
+ghost use Rattle.kt_words.specs.GeometryLaws.{UnitsByName, BlocksFill, BlocksEndInside, UnitNamesPlace, RoomIsEither, NumbersMakeGeometry, NumbersMakePlan};
+ghost use Rattle.kt_words.specs.SuperWordLaws.{SuperWordSaysItsNumbers, SuperWordIsItsNumbers, SuperWordSaysItsValue, SuperWordHasOneValue, SuperWordFits, CountRises, CountFalls, EverRises, ClassChanges, WordReserves, WordReservesSame};
 ghost use Rattle.kt_words.specs.StateWordLaws.{StateWordSaysItsNumbers, StateWordIsItsNumbers, StateWordSaysItsValue, StateWordHasOneValue, PhaseHasOneCode, TagHasOneCode, PhaseChanges, PriorityChanges, TagChanges, NumberChanges};
 ghost use Rattle.kt_words.specs.HeadWordLaws.{HeadWordSaysItsNumbers, HeadWordIsItsNumbers, HeadWordSaysItsValue, HeadWordHasOneValue, LinkHasOneCode, ListedIsNotClosed, LengthRises, LengthFalls, FirstChanges};
 
@@ -8,7 +8,14 @@ pub fn geometries()
     ensures units { UnitsByName }
     ensures fill { BlocksFill }
     ensures inside { BlocksEndInside }
+    ensures place { UnitNamesPlace }
+    ensures room { RoomIsEither }
     ensures numbers { NumbersMakeGeometry }
+{}
+
+/// Plans are told apart by their numbers.
+pub fn plans()
+    ensures { NumbersMakePlan }
 {}
 
 /// A superblock's word and its numbers say the same.
@@ -27,6 +34,7 @@ pub fn super_words_change()
     ensures ever { EverRises }
     ensures class { ClassChanges }
     ensures reserved { WordReserves }
+    ensures reserved_same { WordReservesSame }
 {}
 
 /// A state's word and its numbers say the same.

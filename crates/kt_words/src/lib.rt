@@ -18,7 +18,7 @@ mod tests;
 pub use geometry::Geometry;
 pub use head_word::HeadWord;
 pub use laws::{
-    geometries, head_words, head_words_change, state_words, state_words_change, super_words,
+    geometries, head_words, head_words_change, plans, state_words, state_words_change, super_words,
     super_words_change,
 };
 pub use phase::Phase;

@@ -21,7 +21,8 @@ pub enum Phase {
 
 impl Phase {
     pub(crate) fn code(self) -> u8
-        ensures { result ≡ phase_code self }
+        ensures coded { result ≡ phase_code self }
+        ensures few { result ≤ 5 }
     {
         match self {
             Phase::Free => 0,

@@ -20,7 +20,8 @@ impl StateWord {
     /// The word that says this.
     pub fn pack(self) -> u64
         requires { FitsStateWord self }
-        ensures { result ≡ packed_state self }
+        ensures packed { result ≡ packed_state self }
+        ensures word { IsStateWord result }
     {
         u64::from(self.phase.code())
             + 8 * u64::from(self.priority)

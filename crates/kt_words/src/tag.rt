@@ -23,7 +23,8 @@ pub enum Tag {
 
 impl Tag {
     pub(crate) fn code(self) -> u8
-        ensures { result ≡ tag_code self }
+        ensures coded { result ≡ tag_code self }
+        ensures few { result ≤ 6 }
     {
         match self {
             Tag::Unset => 0,

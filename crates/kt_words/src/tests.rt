@@ -76,6 +76,18 @@ fn lists_that_are_open(rt: HostRuntime) {
 }
 
 #[test]
+fn a_list_with_its_greatest_numbers(rt: HostRuntime) {
+    let value = HeadWord::Listed {
+        first: Some(1_048_574),
+        length: 4_194_303,
+    };
+    let word = value.pack();
+    assert_eq!(rt; word, 4_398_046_511_103);
+    assert_eq!(rt; HeadWord::unpack(word), Some(value));
+    assert_eq!(rt; HeadWord::unpack(word + 1), None);
+}
+
+#[test]
 fn shapes_of_pools(rt: HostRuntime) -> Result<(), Fail> {
     assert_eq!(rt; Geometry::new(1, 12), None);
     assert_eq!(rt; Geometry::new(0, 64), None);
