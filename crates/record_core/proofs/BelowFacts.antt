@@ -2,7 +2,7 @@
 use Rattle.std.proofs.Common.{◌≡◌, ◌≢◌, ◌∙◌, inl, inr, ℕ, zero, suc, ◌+◌, ◌-◌, ◌==◌, if◌then◌else◌, ◌≤◌, ◌<◌, refl, sym, ap, arith}
 use Rattle.std.proofs.lemmas.Bool.{cases_eq, eq-eqb, ne_eqb}
 use Rattle.record_core.specs.Sums.{below}
-use Rattle.record_core.specs.BelowLaws.{BelowSet, BelowSetTwo, BelowSame, BelowLe, BelowBounded, BelowMember, BelowRises, BelowAppend, BelowPlus}
+use Rattle.record_core.specs.BelowLaws.{BelowSet, BelowSetTwo, BelowSame, BelowLe, BelowBounded, BelowMember, BelowRises, BelowAppend, BelowFront, BelowPlus}
 
 pub below-same : BelowSame
 below-same f g zero each = refl
@@ -67,3 +67,7 @@ below-member f n place h =
 pub below-plus : BelowPlus
 below-plus f g zero = refl
 below-plus f g (suc n) = omega (arith, below-plus f g n)
+
+pub below-front : BelowFront
+below-front f zero = omega arith
+below-front f (suc n) = omega (arith, below-front f n)

@@ -3,6 +3,8 @@ use Rattle.std.proofs.Common.{◌≡◌, ◌≢◌, ◌∙◌, ℕ, zero, suc, �
 use Rattle.std.proofs.lemmas.List.Sums.{sum_by-cons}
 use Rattle.std.specs.Prelude.{slice_get, slice_set, sum_by}
 use Rattle.std.specs.List.{remove}
+use Rattle.std.specs.Option.{option_map_or}
+use Rattle.record_core.proofs.BelowFacts.{below-front}
 use Rattle.record_core.specs.Sums.{total, below, without}
 
 -- the same place holds one member
@@ -88,3 +90,7 @@ total-zero (x ∷ xs) = omega (arith, total-zero xs)
 pub total-below : {X : Type 0} (f : X → ℕ → ℕ) (xs : List X) (n : ℕ) → total (λ x. below (f x) n) xs ≡ below (λ k. total (λ x. f x k) xs) n
 total-below f xs zero = total-zero xs
 total-below f xs (suc n) = omega (arith, total-plus (λ x. below (f x) n) (λ x. f x n) xs, total-below f xs n)
+
+pub total-place : {X : Type 0} (f : X → ℕ) (xs : List X) → total f xs ≡ below (λ place. option_map_or f (slice_get xs place) 0) (length xs)
+total-place f [] = refl
+total-place f (x ∷ xs) = omega (arith, total-place f xs, below-front (λ place. option_map_or f (slice_get (x ∷ xs) place) 0) (length xs))

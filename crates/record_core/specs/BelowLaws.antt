@@ -1,5 +1,5 @@
 -- Laws of the sum over the numbers below a bound.
-use Rattle.std.specs.Prelude.{◌≡◌, ◌≢◌, ℕ, ◌+◌, ◌*◌, ◌≤◌, ◌<◌}
+use Rattle.std.specs.Prelude.{◌≡◌, ◌≢◌, ℕ, suc, ◌+◌, ◌*◌, ◌≤◌, ◌<◌}
 use Rattle.record_core.specs.Sums.{below}
 
 -- f and g differ at one number at most
@@ -33,6 +33,10 @@ BelowRises = (f : ℕ → ℕ) (n m : ℕ) → n ≤ m → below f n ≤ below f
 
 abbrev pub BelowAppend : Type 0
 BelowAppend = (f : ℕ → ℕ) (n m : ℕ) → below f (n + m) ≡ below f n + below (λ k. f (n + k)) m
+
+-- the first number apart
+abbrev pub BelowFront : Type 0
+BelowFront = (f : ℕ → ℕ) (n : ℕ) → below f (suc n) ≡ f 0 + below (λ k. f (suc k)) n
 
 -- the sum of sums
 abbrev pub BelowPlus : Type 0

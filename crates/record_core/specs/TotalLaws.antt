@@ -1,6 +1,7 @@
 -- Laws of the sum over a list.
 use Rattle.std.specs.Prelude.{◌≡◌, ◌≢◌, ℕ, ◌+◌, ◌*◌, ◌≤◌, Some, List, [], ◌∷◌, ◌++◌, length, map, sum_by, slice_get, slice_set}
 use Rattle.std.specs.List.{remove}
+use Rattle.std.specs.Option.{option_map_or}
 use Rattle.record_core.specs.Sums.{total, below, without}
 
 -- the sum is that of the library, which goes from the left
@@ -54,6 +55,10 @@ TotalMember X = (f : X → ℕ) (xs : List X) (place : ℕ) (x : X) → slice_ge
 abbrev pub TotalTwoMembers : Type 0 → Type 0
 TotalTwoMembers X = (f : X → ℕ) (xs : List X) (place place' : ℕ) (x x' : X) → place ≢ place'
     → slice_get xs place ≡ Some x → slice_get xs place' ≡ Some x' → f x + f x' ≤ total f xs
+
+-- the sum over the places of the list
+abbrev pub TotalByPlace : Type 0 → Type 0
+TotalByPlace X = (f : X → ℕ) (xs : List X) → total f xs ≡ below (λ place. option_map_or f (slice_get xs place) 0) (length xs)
 
 -- the sum of sums
 abbrev pub TotalPlus : Type 0 → Type 0

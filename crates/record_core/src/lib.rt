@@ -3,8 +3,8 @@
 //! `specs/Sums.antt` defines them. The functions here do nothing: the contract of each is a law.
 #![tactic(auto)]
 
-mod belows;
+mod sums_below;
 mod totals;
 
-pub use belows::{belows_change, belows_compare};
+pub use sums_below::{sums_below_change, sums_below_compare};
 pub use totals::{totals_change, totals_compare, totals_join};

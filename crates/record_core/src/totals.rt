@@ -1,4 +1,4 @@
-ghost use Rattle.record_core.specs.TotalLaws.{TotalIsSum, TotalSet, TotalSetTwo, TotalSnoc, TotalAppend, TotalMap, TotalWithout, WithoutRemoves, TotalLe, TotalSame, TotalBounded, TotalMember, TotalTwoMembers, TotalPlus, TotalOfBelow};
+ghost use Rattle.record_core.specs.TotalLaws.{TotalIsSum, TotalSet, TotalSetTwo, TotalSnoc, TotalAppend, TotalMap, TotalWithout, WithoutRemoves, TotalLe, TotalSame, TotalBounded, TotalMember, TotalTwoMembers, TotalByPlace, TotalPlus, TotalOfBelow};
 
 /// What the sum over a list becomes where members change, come or go.
 pub fn totals_change<T>()
@@ -23,6 +23,7 @@ pub fn totals_compare<T>()
 pub fn totals_join<T, U>()
     ensures sum { TotalIsSum T }
     ensures map { TotalMap T U }
+    ensures place { TotalByPlace T }
     ensures plus { TotalPlus T }
     ensures table { TotalOfBelow T }
 {}

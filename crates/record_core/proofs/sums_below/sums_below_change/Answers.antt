@@ -1,5 +1,5 @@
-use Rattle.record_core.proofs.BelowFacts.{below-set, below-set_two, below-rises, below-append, below-plus}
-use Rattle.record_core.proofs.belows.belows_change.Goals as goal
+use Rattle.record_core.proofs.BelowFacts.{below-set, below-set_two, below-rises, below-append, below-front, below-plus}
+use Rattle.record_core.proofs.sums_below.sums_below_change.Goals as goal
 
 pub returns-clause-set : goal.returns-clause-set
 returns-clause-set c = below-set
@@ -15,3 +15,6 @@ returns-clause-append c = below-append
 
 pub returns-clause-plus : goal.returns-clause-plus
 returns-clause-plus c = below-plus
+
+pub returns-clause-front : goal.returns-clause-front
+returns-clause-front c = below-front

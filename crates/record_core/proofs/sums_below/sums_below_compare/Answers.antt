@@ -1,5 +1,5 @@
 use Rattle.record_core.proofs.BelowFacts.{below-same, below-le, below-bounded, below-member}
-use Rattle.record_core.proofs.belows.belows_compare.Goals as goal
+use Rattle.record_core.proofs.sums_below.sums_below_compare.Goals as goal
 
 pub returns-clause-same : goal.returns-clause-same
 returns-clause-same c = below-same
