@@ -34,6 +34,6 @@ class_of word = word / 65536 % 16
 abbrev pub ever_of : ℕ → ℕ
 ever_of word = word / 1048576
 
--- the words of which each number is in its range
+-- the words of a superblock: the class is in its range; the two other numbers of a word of 64 bits always are
 abbrev pub IsSuperWord : ℕ → Type 0
 IsSuperWord word = class_of word ≤ 3
