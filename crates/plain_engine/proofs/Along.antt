@@ -3,12 +3,12 @@ use Rattle.std.proofs.Common.{◌≡◌, ℕ, suc, Option, Some, None, refl, sym
 use Rattle.task_syntax.specs.declared.value.Value.{Value}
 use Rattle.task_syntax.specs.declared.value.Value.TheVariants.{Number, Trapped}
 use Rattle.task_syntax.specs.declared.program.Program.{Program}
+use Rattle.task_syntax.specs.declared.columns.Columns.{Columns}
 use Rattle.task_meaning.specs.Meant.{Meant, gives, future_at, with_value, with_number}
 use Rattle.task_meaning.specs.Frame.{Place, set_number}
 use Rattle.task_meaning.specs.Meaning.{rest}
 use Rattle.task_meaning.specs.Acts.{Act, act_of, Steps, Calls, Gathers, Reads, Respawns, Finishes, follows, followed}
 use Rattle.task_meaning.proofs.ActByAct.{rest-follows}
-use Rattle.task_syntax.specs.Columns.{no_columns}
 use Rattle.plain_engine.specs.Steps.{settled_act, read_of, act_at, IsNext, Reaches, here, onward, StopsAt}
 
 -- a future that has a value is read at once
@@ -26,17 +26,17 @@ settled-follows p less same (Reads to x) q = by (future_at q.futures x) refl whe
   by (Some (Trapped t)) e = ap (λ o. with_value o (λ v. with_number v (λ m. same (set_number q to m)))) e ∙ ap (λ o. follows p less same (read_of o to x q) q) (sym e)
 
 -- what follows from a place is what follows its act
-pub rest-act : (p : Program) (n : ℕ) (q : Place) (stop : Option Value) (s : StopsAt p q stop) → rest p no_columns (suc n) q ≡ followed p no_columns n (act_at s.line.instr q) q
-rest-act p n q stop s = rest-follows p no_columns n q s.line s.stands s.ahead ∙ settled-follows p (rest p no_columns n) (rest p no_columns (suc n)) (act_of no_columns s.line.instr q) q
+pub rest-act : (p : Program) (cs : Columns) (n : ℕ) (q : Place) (stop : Option Value) (s : StopsAt p cs q stop) → rest p cs (suc n) q ≡ followed p cs n (act_at cs s.line.instr q) q
+rest-act p cs n q stop s = rest-follows p cs n q s.line s.stands s.ahead ∙ settled-follows p (rest p cs n) (rest p cs (suc n)) (act_of cs s.line.instr q) q
 
-next-rest : (p : Program) (n : ℕ) (q next : Place) → IsNext p q next → rest p no_columns (suc n) q ≡ rest p no_columns (suc n) next
-next-rest p n q next s = rest-follows p no_columns n q s.line s.stands s.ahead ∙ (settled-follows p (rest p no_columns n) (rest p no_columns (suc n)) (act_of no_columns s.line.instr q) q
-    ∙ ap (λ a. followed p no_columns n a q) s.goes)
+next-rest : (p : Program) (cs : Columns) (n : ℕ) (q next : Place) → IsNext p cs q next → rest p cs (suc n) q ≡ rest p cs (suc n) next
+next-rest p cs n q next s = rest-follows p cs n q s.line s.stands s.ahead ∙ (settled-follows p (rest p cs n) (rest p cs (suc n)) (act_of cs s.line.instr q) q
+    ∙ ap (λ a. followed p cs n a q) s.goes)
 
-pub reaches-rest : (p : Program) (n : ℕ) (q now : Place) → Reaches p q now → rest p no_columns (suc n) q ≡ rest p no_columns (suc n) now
-reaches-rest p n q now here = refl
-reaches-rest p n q now (onward {at = at} {next = next} r s) = reaches-rest p n q at r ∙ next-rest p n at next s
+pub reaches-rest : (p : Program) (cs : Columns) (n : ℕ) (q now : Place) → Reaches p cs q now → rest p cs (suc n) q ≡ rest p cs (suc n) now
+reaches-rest p cs n q now here = refl
+reaches-rest p cs n q now (onward {at = at} {next = next} r s) = reaches-rest p cs n q at r ∙ next-rest p cs n at next s
 
 -- what follows from a place where the task ends
-pub ends-rest : (p : Program) (n : ℕ) (q now : Place) (v : Value) → Reaches p q now → StopsAt p now (Some v) → rest p no_columns (suc n) q ≡ gives v
-ends-rest p n q now v r s = reaches-rest p n q now r ∙ (rest-act p n now (Some v) s ∙ ap (λ a. followed p no_columns n a now) s.stops)
+pub ends-rest : (p : Program) (cs : Columns) (n : ℕ) (q now : Place) (v : Value) → Reaches p cs q now → StopsAt p cs now (Some v) → rest p cs (suc n) q ≡ gives v
+ends-rest p cs n q now v r s = reaches-rest p cs n q now r ∙ (rest-act p cs n now (Some v) s ∙ ap (λ a. followed p cs n a now) s.stops)

@@ -1,14 +1,10 @@
 -- An activation that begins stands where it may.
-use Rattle.std.proofs.Common.{◌≡◌, ℕ, zero, suc, ◌+◌, ◌<◌, ◌≤◌, Bool, true, cond, nat_eq, Option, Some, None, List, [], ◌∷◌, map, length, slice_get, IfSome, IfOk, Ok, Err, refl, sym, ◌∙◌, ap, subst, inl, inr, arith}
+use Rattle.std.proofs.Common.{◌≡◌, ℕ, ◌+◌, ◌<◌, ◌≤◌, Bool, Option, Some, None, List, map, length, slice_get, IfOk, Ok, Err, refl, sym, ◌∙◌, ap, subst, inl, arith}
 use Rattle.std.specs.Prelude.{Result}
-use Rattle.std.specs.List.{list_all}
-use Rattle.std.proofs.lemmas.Bool.{eqb-true}
 use Rattle.task_syntax.specs.Places.{Each}
-use Rattle.task_syntax.specs.Facts.{has, after, at_start}
+use Rattle.task_syntax.specs.Facts.{after, at_start}
 use Rattle.task_syntax.specs.Form.{IsWellFormed, IsFormedInstr, IsFormedArgument}
-use Rattle.task_syntax.specs.Valid.{starts, Held, WillSettle, SpawnsSoundly, RespawnsSoundly, IsSoundInstr, IsValid}
-use Rattle.first_form.specs.First.{IsFirst, is_first_kind, enters_empty, is_first_state}
-use Rattle.task_syntax.proofs.Bools.{both, either}
+use Rattle.task_syntax.specs.Valid.{starts, SpawnsSoundly, RespawnsSoundly, IsSoundInstr, IsValid}
 use Rattle.task_syntax.specs.declared.value.Value.{Value}
 use Rattle.task_syntax.specs.declared.value.Value.TheVariants as value
 use Rattle.task_syntax.specs.declared.value.Priority.{Priority}
@@ -20,14 +16,12 @@ use Rattle.task_syntax.specs.declared.instr.Line.{Line}
 use Rattle.task_syntax.specs.declared.program.State.{State}
 use Rattle.task_syntax.specs.declared.program.Kind.{Kind}
 use Rattle.task_syntax.specs.declared.program.Program.{Program}
-use Rattle.task_meaning.specs.Meant.{future_at}
-use Rattle.task_meaning.specs.Frame.{Place, Call, variables_of, variables_in, state_in, kept, kept_from, entry, enter, holds_at, holds_in, set_number, operand, spawned, number_passed, future_passed}
-use Rattle.task_meaning.specs.Arithmetic.{computed}
+use Rattle.task_syntax.specs.declared.columns.Columns.{Columns}
+use Rattle.task_meaning.specs.Frame.{Place, Call, variables_of, variables_in, state_in, kept, entry, enter, holds_at, holds_in, set_number, operand, spawned, number_passed, future_passed}
+use Rattle.task_meaning.specs.Arithmetic.{computed, cell_at}
 use Rattle.task_meaning.specs.Acts.{act_of, steps_with}
-use Rattle.task_meaning.specs.Runs.{HasValue, IsReady}
 use Rattle.plain_engine.specs.Place.{IsPlaced, IsArgumentIn}
-use Rattle.task_syntax.specs.Columns.{no_columns}
-use Rattle.plain_engine.specs.Steps.{Reaches, here, onward, StartsMore}
+use Rattle.plain_engine.specs.Steps.{Reaches, here, onward, activations_of}
 use Rattle.plain_engine.specs.Steady.{IsSteady}
 use Rattle.plain_engine.specs.Stack.{IsCalling, IsRespawning, IsEvent}
 use Rattle.plain_engine.specs.declared.end.TheConstants.{LIMIT}
@@ -36,18 +30,19 @@ use Rattle.plain_engine.specs.declared.event.Event.TheVariants as event
 use Rattle.plain_engine.proofs.Placed.{IsAt, placed-at, formed-instr, line-within, jumps-ahead, sort-within, operand-in, some-same}
 use Rattle.plain_engine.proofs.Entry.{length-kept_from}
 use Rattle.plain_engine.proofs.FutureFacts.{Met}
-use Rattle.plain_engine.proofs.Steady.{steady-of, sound-instr, code-of, first-kind}
+use Rattle.plain_engine.proofs.Steady.{steady-of, sound-instr, code-of}
+use Rattle.plain_engine.proofs.Values.{has-place, kept-stays, held-value, waits-ready, will-settle, entry-steady, spawn-passes}
 
-reaches-from : (p : Program) (a b c : Place) → Reaches p a b → Reaches p b c → Reaches p a c
-reaches-from p a b c r here = r
-reaches-from p a b c r (onward {at = at} {next = next} s x) = onward (reaches-from p a b at r s) x
+reaches-from : (p : Program) (cs : Columns) (a b c : Place) → Reaches p cs a b → Reaches p cs b c → Reaches p cs a c
+reaches-from p cs a b c r here = r
+reaches-from p cs a b c r (onward {at = at} {next = next} s x) = onward (reaches-from p cs a b at r s) x
 
 -- an event of a place that the task reached is one of the place before
-pub event-from : (p : Program) (top q : Place) (before after : ℕ) (e : Event) → Reaches p top q → IsEvent p q before after e → IsEvent p top before after e
-event-from p top q before after (event.Calls caller to callee) r c = record {
+pub event-from : (p : Program) (cs : Columns) (top q : Place) (before after : ℕ) (e : Event) → Reaches p cs top q → IsEvent p cs q before after e → IsEvent p cs top before after e
+event-from p cs top q before after (event.Calls caller to callee) r c = record {
   call = c.call;
   waits = c.waits;
-  reaches = reaches-from p top q caller r c.reaches;
+  reaches = reaches-from p cs top q caller r c.reaches;
   does = c.does;
   ready = c.ready;
   is_callee = c.is_callee;
@@ -58,11 +53,25 @@ event-from p top q before after (event.Calls caller to callee) r c = record {
   below = c.below;
   counted = c.counted;
 }
-event-from p top q before after (event.Respawns next) r c = record {
+event-from p cs top q before after (event.Gathers next) r c = record {
+  at = c.at;
+  to = c.to;
+  members = c.members;
+  reaches = reaches-from p cs top q c.at r c.reaches;
+  does = c.does;
+  ready = c.ready;
+  some = c.some;
+  is_next = c.is_next;
+  placed = c.placed;
+  steady = c.steady;
+  below = c.below;
+  counted = c.counted;
+}
+event-from p cs top q before after (event.Respawns next) r c = record {
   at = c.at;
   target = c.target;
   waits = c.waits;
-  reaches = reaches-from p top q c.at r c.reaches;
+  reaches = reaches-from p cs top q c.at r c.reaches;
   does = c.does;
   ready = c.ready;
   is_next = c.is_next;
@@ -71,46 +80,9 @@ event-from p top q before after (event.Respawns next) r c = record {
   below = c.below;
   counted = c.counted;
 }
-event-from p top q before after (event.Ends (Some v)) r c = (record { at = c.0.at; reaches = reaches-from p top q c.0.at r c.0.reaches; stops = c.0.stops }, c.1)
-event-from p top q before after (event.Ends None) r c =
-    (record { at = c.0.at; act = c.0.act; reaches = reaches-from p top q c.0.at r c.0.reaches; does = c.0.does; starts = c.0.starts; met = c.0.met }, c.1)
-
--- a member of a list stands at a place
-has-place : (x : ℕ) (xs : List ℕ) → has x xs ≡ true → (i : ℕ) × (slice_get xs i ≡ Some x)
-has-place x [] h = cc
-has-place x (y ∷ ys) h = elim (either (nat_eq x y) (has x ys) h) [
-  | inl s ↦ (0, ap Some (sym (eqb-true x y s)))
-  | inr s ↦ let m = has-place x ys s in (suc m.0, m.1)
-]
-
--- what is held is kept
-kept-held : (b x : ℕ) (held : List ℕ) (fs : List (Option Value)) → has (b + x) held ≡ true → future_at (kept_from b held fs) x ≡ future_at fs x
-kept-held b x held [] h = refl
-kept-held b zero held (f ∷ fs) h = let e : has b held ≡ true = ap (λ n. has n held) (omega arith) ∙ h in ap (λ t. cond t f None) e
-kept-held b (suc x) held (f ∷ fs) h = kept-held (b + 1) x held fs (ap (λ n. has n held) (omega arith) ∙ h)
-
-kept-stays : (x : ℕ) (held : List ℕ) (fs : List (Option Value)) → has x held ≡ true → future_at (kept held fs) x ≡ future_at fs x
-kept-stays x held fs h = let e : 0 + x ≡ x = omega arith in kept-held 0 x held fs (ap (λ n. has n held) e ∙ h)
-
-none-held : (xs : List ℕ) (x : ℕ) → length xs ≡ 0 → has x xs ≡ true → ⊥
-none-held [] x e h = cc
-none-held (y ∷ ys) x e h = omega (arith, e)
-
--- while the limit is not met, what is held has a value
-held-value : (p : Program) (q : Place) (n x : ℕ) (s : IsSteady p q n) → n < LIMIT → Held s.state q.at x → HasValue q.futures x
-held-value p q n x s below h = elim (s.held x (h s.facts s.way)) [ inl v ↦ v | inr l ↦ absurd (omega (arith, l, below)) ]
-
-waits-ready : (p : Program) (q : Place) (n : ℕ) (waits : Option ℕ) (s : IsSteady p q n) → n < LIMIT → IfSome waits (Held s.state q.at) → IsReady q.futures waits
-waits-ready p q n None s below h = tt
-waits-ready p q n (Some x) s below h = held-value p q n x s below h
-
--- what will be settled behind a predecessor that has a value has one
-will-settle : (p : Program) (q : Place) (n x : ℕ) (waits : Option ℕ) (s : IsSteady p q n) → IsReady q.futures waits → WillSettle s.state q.at waits x → HasValue q.futures x
-will-settle p q n x None s r w = s.settled x (w s.facts s.way)
-will-settle p q n x (Some g) s r w = elim w [
-  | inl h ↦ s.settled x (h s.facts s.way)
-  | inr h ↦ elim h [ inl e ↦ subst (λ y. HasValue q.futures y) e r | inr m ↦ s.members g x (m s.facts s.way) r ]
-]
+event-from p cs top q before after (event.Ends (Some v)) r c = (record { at = c.0.at; reaches = reaches-from p cs top q c.0.at r c.0.reaches; stops = c.0.stops }, c.1)
+event-from p cs top q before after (event.Ends None) r c =
+    (record { at = c.0.at; act = c.0.act; reaches = reaches-from p cs top q c.0.at r c.0.reaches; does = c.0.does; starts = c.0.starts; met = c.0.met }, c.1)
 
 -- a state begins with what it holds
 respawn-steady : (p : Program) (q : Place) (n : ℕ) (target : ℕ) (waits : Option ℕ) (next : State) (s : IsSteady p q n) → IsValid p → n < LIMIT → slice_get s.kind.states target ≡ Some next
@@ -126,10 +98,10 @@ respawn-steady p q n target waits next s valid below e r =
       members = λ g x h v. cc;
     }
 
-pub respawning : (p : Program) (q made : Place) (n target : ℕ) (waits : Option ℕ) (priority : Priority) (line : Line) (next : State) (s : IsSteady p q n) → IsWellFormed p → IsValid p → IsPlaced p q → n < LIMIT
+pub respawning : (p : Program) (cs : Columns) (q made : Place) (n target : ℕ) (waits : Option ℕ) (priority : Priority) (line : Line) (next : State) (s : IsSteady p q n) → IsWellFormed p → IsValid p → IsPlaced p q → n < LIMIT
     → slice_get s.state.code q.at ≡ Some line → line.instr ≡ Again target waits priority → slice_get s.kind.states target ≡ Some next
-    → made ≡ record { kind = q.kind; state = target; at = 0; numbers = q.numbers; futures = kept next.holds q.futures } → IsRespawning p q n (n + 1) made
-respawning p q made n target waits priority line next s formed valid placed below l i e m =
+    → made ≡ record { kind = q.kind; state = target; at = 0; numbers = q.numbers; futures = kept next.holds q.futures } → IsRespawning p cs q n (n + 1) made
+respawning p cs q made n target waits priority line next s formed valid placed below l i e m =
     let a = placed-at p q s.kind s.state placed s.is_kind s.is_state in
     let r : RespawnsSoundly next s.state q.at waits = subst (λ (x : Instr). IsSoundInstr p s.kind s.state q.at x) i (sound-instr p q s.kind s.state line valid s.is_kind s.is_state l) next e in
     let held : holds_at p q.kind target ≡ next.holds = ap (λ o. holds_in (state_in o target)) s.is_kind ∙ ap holds_in e in
@@ -146,7 +118,7 @@ respawning p q made n target waits priority line next s formed valid placed belo
         line = line;
         stands = ap (λ (ls : List Line). slice_get ls q.at) (code-of p q.kind q.state s.kind s.state s.is_kind s.is_state) ∙ l;
         ahead = jumps-ahead p s.kind s.state q.at line.instr (formed-instr p q s.kind s.state line formed a l);
-        does = ap (λ (x : Instr). act_of no_columns x q) i;
+        does = ap (λ (x : Instr). act_of cs x q) i;
       };
       ready = waits-ready p q n waits s below r.behind_held;
       is_next = same;
@@ -165,28 +137,6 @@ respawning p q made n target waits priority line next s formed valid placed belo
       below = below;
       counted = refl;
     }
-
-enters-none : (p : Program) (kind : Kind) (entry_state : State) → is_first_kind p kind ≡ true → slice_get kind.states 0 ≡ Some entry_state → length entry_state.holds ≡ 0
-enters-none p kind entry_state h e =
-    let a = both _ (list_all (is_first_state p kind) kind.states) h in
-    let b = both _ (enters_empty kind.states) a.0 in
-    by kind.states e b.1 where
-      by : (states : List State) → slice_get states 0 ≡ Some entry_state → enters_empty states ≡ true → length entry_state.holds ≡ 0
-      by [] e h = cc
-      by (s ∷ states) e h = let same : s ≡ entry_state = cc in eqb-true (length entry_state.holds) 0 (subst (λ (x : State). nat_eq (length x.holds) 0 ≡ true) same h)
-
--- a call of a kind of the first form begins with no futures
-pub entry-steady : (p : Program) (call : Call) (n : ℕ) → IsWellFormed p → IsValid p → IsFirst p → call.kind < length p.kinds → IsSteady p (entry p call) n
-entry-steady p call n formed valid first h =
-    let k = line-within p.kinds call.kind h in
-    let e = line-within k.0.states 0 (formed.kinds call.kind k.0 k.1).has_state in
-    let none = enters-none p k.0 e.0 (first-kind p call.kind k.0 first k.1) e.1 in
-    let sound = (valid.kinds call.kind k.0 k.1).states 0 e.0 e.1 in
-    steady-of p (entry p call) n k.0 e.0 (at_start e.0) k.1 e.1 starts (record {
-      settled = λ x g. let at = has-place x e.0.settled g in absurd (none-held e.0.holds x none (sound.settled_held at.0 x at.1));
-      held = λ x g. absurd (none-held e.0.holds x none g);
-      members = λ g x i v. cc;
-    })
 
 argument-in : (kind : Kind) (n m : ℕ) (a : Argument) → n ≡ length kind.variables → m ≡ length kind.variables → IsFormedArgument kind a → IsArgumentIn n m a
 argument-in kind n m (argument.Number a) e g h = operand-in kind n a e h
@@ -220,11 +170,11 @@ passed-fit p q kind state line to callee n arguments waits priority retry formed
     let v : variables_of p callee ≡ length k.0.variables = ap variables_in k.1 in
     omega (arith, e, agrees, f, v)
 
-pub calling : (p : Program) (q made : Place) (n to callee : ℕ) (arguments : List Argument) (waits : Option ℕ) (priority : Priority) (retry : Bool) (line : Line) (numbers : List ℕ) (futures : List (Option Value)) (s : IsSteady p q n)
-    → IsWellFormed p → IsValid p → IsFirst p → IsPlaced p q → n < LIMIT → slice_get s.state.code q.at ≡ Some line → line.instr ≡ Spawn to callee arguments waits priority retry
+pub calling : (p : Program) (cs : Columns) (q made : Place) (n to callee : ℕ) (arguments : List Argument) (waits : Option ℕ) (priority : Priority) (retry : Bool) (line : Line) (numbers : List ℕ) (futures : List (Option Value)) (s : IsSteady p q n)
+    → IsWellFormed p → IsValid p → IsPlaced p q → n < LIMIT → slice_get s.state.code q.at ≡ Some line → line.instr ≡ Spawn to callee arguments waits priority retry
     → numbers ≡ map (number_passed q.numbers) arguments → futures ≡ map (future_passed q.futures) arguments
-    → made ≡ entry p (record { kind = callee; numbers = numbers; futures = futures }) → IsPlaced p made → IsCalling p q n (n + 1) q to made
-calling p q made n to callee arguments waits priority retry line numbers futures s formed valid first placed below l i a b m placed_made =
+    → made ≡ entry p (record { kind = callee; numbers = numbers; futures = futures }) → IsPlaced p made → IsCalling p cs q n (n + 1) q to made
+calling p cs q made n to callee arguments waits priority retry line numbers futures s formed valid placed below l i a b m placed_made =
     let at = placed-at p q s.kind s.state placed s.is_kind s.is_state in
     let h = spawn-kind p q s.kind s.state line to callee arguments waits priority retry formed at l i in
     let k = line-within p.kinds callee h in
@@ -240,14 +190,15 @@ calling p q made n to callee arguments waits priority retry line numbers futures
         line = line;
         stands = ap (λ (ls : List Line). slice_get ls q.at) (code-of p q.kind q.state s.kind s.state s.is_kind s.is_state) ∙ l;
         ahead = jumps-ahead p s.kind s.state q.at line.instr (formed-instr p q s.kind s.state line formed at l);
-        does = ap (λ (x : Instr). act_of no_columns x q) i;
+        does = ap (λ (x : Instr). act_of cs x q) i;
       };
       ready = waits-ready p q n waits s below sound.behind_held;
       is_callee = same;
       placed = placed;
       steady = s;
       callee_placed = placed_made;
-      callee_steady = subst S (sym same) (entry-steady p (spawned q callee arguments) (n + 1) formed valid first h);
+      callee_steady = subst S (sym same) (entry-steady p (spawned q callee arguments) (n + 1) formed valid h
+          (spawn-passes p q n callee arguments waits formed valid s below h (spawns-soundly p q s.kind s.state line to callee arguments waits priority retry valid at l i)));
       below = below;
       counted = refl;
     }
@@ -274,25 +225,26 @@ pub target-in : (p : Program) (q : Place) (kind : Kind) (state : State) (line : 
 target-in p q kind state line target waits priority formed a l i =
     let f : IsFormedInstr p kind state q.at (Again target waits priority) = subst (λ (y : Instr). IsFormedInstr p kind state q.at y) i (formed-instr p q kind state line formed a l) in f.0
 
-math-starts : (v : Value) (to : ℕ) (q : Place) → ¬ StartsMore (steps_with v (set_number q to))
-math-starts (value.Number n) to q h = h
-math-starts (value.Trapped t) to q h = h
+math-starts : (v : Value) (to : ℕ) (q : Place) → ¬ (0 < activations_of (steps_with v (set_number q to)))
+math-starts (value.Number n) to q h = omega (arith, h)
+math-starts (value.Trapped t) to q h = omega (arith, h)
 
--- only a spawn and a respawn start an activation
-pub no-start : (instr : Instr) (q : Place) → StartsMore (act_of no_columns instr q)
+-- only a spawn, an aggregate and a respawn start activations
+pub no-start : (cs : Columns) (instr : Instr) (q : Place) → 0 < activations_of (act_of cs instr q)
     → ((to kind : ℕ) (arguments : List Argument) (waits : Option ℕ) (priority : Priority) (retry : Bool) → ¬ (instr ≡ Spawn to kind arguments waits priority retry))
+    → ((to : ℕ) (members : List ℕ) (priority : Priority) (retry : Bool) → ¬ (instr ≡ All to members priority retry))
     → ((target : ℕ) (waits : Option ℕ) (priority : Priority) → ¬ (instr ≡ Again target waits priority)) → ⊥
-no-start (Set a b) q h s r = h
-no-start (Math op to left right) q h s r = math-starts (computed op (operand q.numbers left) (operand q.numbers right)) to q h
-no-start (If a b c d) q h s r = h
-no-start (Goto a) q h s r = h
-no-start (Label a) q h s r = h
-no-start (Cell a b c) q h s r = h
-no-start (Rows a b) q h s r = h
-no-start (Spawn a b c d g i) q h s r = s a b c d g i refl
-no-start (All a b c d) q h s r = h
-no-start (Copy a b) q h s r = h
-no-start (Drop a) q h s r = h
-no-start (Get to x) q h s r = h
-no-start (Again a b c) q h s r = r a b c refl
-no-start (Done a) q h s r = h
+no-start cs (Set a b) q h s g r = omega (arith, h)
+no-start cs (Math op to left right) q h s g r = math-starts (computed op (operand q.numbers left) (operand q.numbers right)) to q h
+no-start cs (If a b c d) q h s g r = omega (arith, h)
+no-start cs (Goto a) q h s g r = omega (arith, h)
+no-start cs (Label a) q h s g r = omega (arith, h)
+no-start cs (Cell to column row) q h s g r = math-starts (cell_at cs column (operand q.numbers row)) to q h
+no-start cs (Rows a b) q h s g r = omega (arith, h)
+no-start cs (Spawn a b c d e i) q h s g r = s a b c d e i refl
+no-start cs (All a b c d) q h s g r = g a b c d refl
+no-start cs (Copy a b) q h s g r = omega (arith, h)
+no-start cs (Drop a) q h s g r = omega (arith, h)
+no-start cs (Get to x) q h s g r = omega (arith, h)
+no-start cs (Again a b c) q h s g r = r a b c refl
+no-start cs (Done a) q h s g r = omega (arith, h)

@@ -1,5 +1,5 @@
 -- What is known of futures stays so over the instructions that change them.
-use Rattle.std.proofs.Common.{◌≡◌, ℕ, ◌<◌, Bool, true, false, cond, nat_eq, Option, Some, None, List, [], ◌∷◌, length, slice_set, refl, sym, ◌∙◌, ap, ◌⊎◌, inl, inr}
+use Rattle.std.proofs.Common.{◌≡◌, ℕ, ◌<◌, ◌≤◌, Bool, true, false, cond, nat_eq, Option, Some, None, List, [], ◌∷◌, length, slice_set, refl, sym, ◌∙◌, ap, ◌⊎◌, inl, inr, arith}
 use Rattle.std.proofs.lemmas.Bool.{eqb-true, eqb-false}
 use Rattle.std.proofs.lemmas.List.{get_or-set_same, get_or-set_other}
 use Rattle.task_syntax.specs.Facts.{Facts, has, without, members_of, forget, renewed, given_up}
@@ -14,6 +14,10 @@ pub record Met (f : Facts) (fs : List (Option Value)) (n : ℕ) : Type 0 where
   pub settled : (x : ℕ) → has x f.settled ≡ true → HasValue fs x
   pub held : (x : ℕ) → has x f.held ≡ true → HasValue fs x ⊎ (n ≡ LIMIT)
   pub members : (g x : ℕ) → has x (members_of g f.members) ≡ true → HasValue fs g → HasValue fs x
+
+-- what is met stays so when more is accepted
+pub met-later : (f : Facts) (fs : List (Option Value)) (n m : ℕ) → n ≤ m → m ≤ LIMIT → Met f fs n → Met f fs m
+met-later f fs n m h w s = record { settled = s.settled; held = λ x g. elim (s.held x g) [ inl v ↦ inl v | inr l ↦ inr (omega (arith, h, w, l)) ]; members = s.members }
 
 -- an outcome that is a value
 abbrev pub IsGiven : Option Value → Type 0

@@ -19,9 +19,11 @@ use Rattle.task_syntax.specs.declared.program.Variable.{Variable as VariableOf}
 use Rattle.task_syntax.specs.declared.program.State.{State}
 use Rattle.task_syntax.specs.declared.program.Kind.{Kind}
 use Rattle.task_syntax.specs.declared.program.Program.{Program}
+use Rattle.task_syntax.specs.declared.columns.Columns.{Columns}
 use Rattle.task_meaning.specs.Meant.{future_at}
 use Rattle.task_meaning.specs.Frame.{Place, code_at, code_in, state_in, jump, go_on, set_number, set_future, operand}
-use Rattle.task_meaning.specs.Arithmetic.{computed, compares}
+use Rattle.task_syntax.specs.Columns.{rows_of}
+use Rattle.task_meaning.specs.Arithmetic.{computed, compares, cell_at}
 use Rattle.task_meaning.specs.Acts.{JumpsAhead, steps_with, Steps}
 use Rattle.plain_engine.specs.Place.{IsOperandIn, NamesIn, Fits, IsPlaced}
 use Rattle.plain_engine.specs.Steps.{act_at, settled_act, read_of, IsNext, StopsAt, IsStop}
@@ -87,30 +89,33 @@ moves-if instr q next true target stays jumps same e = let s : jump q target ≡
 moves-if instr q next false target stays jumps same e = let s : go_on q ≡ next = cc in
     subst (λ r. Moves instr q r) s (record { kind = refl; state = refl; numbers = refl; futures = sym same; goes = inl (refl, stays) })
 
-pub moves : (instr : Instr) (q next : Place) → act_at instr q ≡ Steps next → Moves instr q next
-moves (Set to a) q next e = let s : set_number q to (operand q.numbers a) ≡ next = cc in
+settled-alone : (v : Value) (to : ℕ) (q next : Place) → settled_act (steps_with v (set_number q to)) q ≡ Steps next → steps_with v (set_number q to) ≡ Steps next
+settled-alone (value.Number n) to q next h = h
+settled-alone (value.Trapped t) to q next h = h
+
+pub moves : (cs : Columns) (instr : Instr) (q next : Place) → act_at cs instr q ≡ Steps next → Moves instr q next
+moves cs (Set to a) q next e = let s : set_number q to (operand q.numbers a) ≡ next = cc in
     subst (λ r. Moves (Set to a) q r) s (record { kind = refl; state = refl; numbers = length-set q.numbers to _; futures = refl; goes = inl (refl, λ h. h) })
-moves (Math op to left right) q next e = moves-number (Math op to left right) q next to (computed op (operand q.numbers left) (operand q.numbers right)) (λ h. h) refl (by _ e) where
-  by : (v : Value) → settled_act (steps_with v (set_number q to)) q ≡ Steps next → steps_with v (set_number q to) ≡ Steps next
-  by (value.Number n) h = h
-  by (value.Trapped t) h = h
-moves (If relation left right target) q next e = moves-if (If relation left right target) q next (compares relation (operand q.numbers left) (operand q.numbers right)) target (λ h. h) refl refl e
-moves (Goto target) q next e = let s : jump q target ≡ next = cc in
+moves cs (Math op to left right) q next e =
+    let v = computed op (operand q.numbers left) (operand q.numbers right) in moves-number (Math op to left right) q next to v (λ h. h) refl (settled-alone v to q next e)
+moves cs (If relation left right target) q next e = moves-if (If relation left right target) q next (compares relation (operand q.numbers left) (operand q.numbers right)) target (λ h. h) refl refl e
+moves cs (Goto target) q next e = let s : jump q target ≡ next = cc in
     subst (λ r. Moves (Goto target) q r) s (record { kind = refl; state = refl; numbers = refl; futures = refl; goes = inr refl })
-moves (Label name) q next e = let s : go_on q ≡ next = cc in
+moves cs (Label name) q next e = let s : go_on q ≡ next = cc in
     subst (λ r. Moves (Label name) q r) s (record { kind = refl; state = refl; numbers = refl; futures = refl; goes = inl (refl, λ h. h) })
-moves (Cell to column row) q next e = cc
-moves (Rows to column) q next e = let s : set_number q to 0 ≡ next = cc in
+moves cs (Cell to column row) q next e =
+    let v = cell_at cs column (operand q.numbers row) in moves-number (Cell to column row) q next to v (λ h. h) refl (settled-alone v to q next e)
+moves cs (Rows to column) q next e = let s : set_number q to (rows_of cs column) ≡ next = cc in
     subst (λ r. Moves (Rows to column) q r) s (record { kind = refl; state = refl; numbers = length-set q.numbers to _; futures = refl; goes = inl (refl, λ h. h) })
-moves (Spawn to callee arguments behind priority retry) q next e = cc
-moves (All to members priority retry) q next e = cc
-moves (Copy to source) q next e = let s : set_future q to (future_at q.futures source) ≡ next = cc in
+moves cs (Spawn to callee arguments behind priority retry) q next e = cc
+moves cs (All to members priority retry) q next e = cc
+moves cs (Copy to source) q next e = let s : set_future q to (future_at q.futures source) ≡ next = cc in
     subst (λ r. Moves (Copy to source) q r) s (record { kind = refl; state = refl; numbers = refl; futures = refl; goes = inl (refl, λ h. h) })
-moves (Drop x) q next e = let s : set_future q x None ≡ next = cc in
+moves cs (Drop x) q next e = let s : set_future q x None ≡ next = cc in
     subst (λ r. Moves (Drop x) q r) s (record { kind = refl; state = refl; numbers = refl; futures = refl; goes = inl (refl, λ h. h) })
-moves (Get to x) q next e = moves-read (Get to x) q next to x (future_at q.futures x) (λ h. h) refl e
-moves (Again target behind priority) q next e = cc
-moves (Done a) q next e = cc
+moves cs (Get to x) q next e = moves-read (Get to x) q next to x (future_at q.futures x) (λ h. h) refl e
+moves cs (Again target behind priority) q next e = cc
+moves cs (Done a) q next e = cc
 
 -- a place at a line of a state of a kind
 pub record IsAt (p : Program) (q : Place) (kind : Kind) (state : State) : Type 0 where
@@ -233,9 +238,9 @@ next-line p q next kind state line formed e (inl g) = let b = line-behind p kind
 next-line p q next kind state line formed e (inr j) = let l = jump-line p kind state q.at next.at line.instr (formed.instrs q.at line e) j in
     line-of state next.at l.1.0 l.1.1
 
-pub placed-next : (p : Program) (q next : Place) (kind : Kind) (state : State) (line : Line) → IsWellFormed p → IsAt p q kind state → slice_get state.code q.at ≡ Some line
-    → act_at line.instr q ≡ Steps next → IsPlaced p next
-placed-next p q next kind state line formed a e g = let m = moves line.instr q next g in
+pub placed-next : (p : Program) (cs : Columns) (q next : Place) (kind : Kind) (state : State) (line : Line) → IsWellFormed p → IsAt p q kind state → slice_get state.code q.at ≡ Some line
+    → act_at cs line.instr q ≡ Steps next → IsPlaced p next
+placed-next p cs q next kind state line formed a e g = let m = moves cs line.instr q next g in
     let l = next-line p q next kind state line (formed-state p q kind state formed a) e m.goes in
     record {
       kind = kind;
@@ -248,27 +253,27 @@ placed-next p q next kind state line formed a e g = let m = moves line.instr q n
       futures = ap length m.futures ∙ (length-futures_after line.instr q.futures ∙ a.futures);
     }
 
-pub is-next : (p : Program) (q next : Place) (kind : Kind) (state : State) (line : Line) → IsWellFormed p → IsAt p q kind state → slice_get state.code q.at ≡ Some line
-    → act_at line.instr q ≡ Steps next → IsNext p q next
-is-next p q next kind state line formed a e g = record {
+pub is-next : (p : Program) (cs : Columns) (q next : Place) (kind : Kind) (state : State) (line : Line) → IsWellFormed p → IsAt p q kind state → slice_get state.code q.at ≡ Some line
+    → act_at cs line.instr q ≡ Steps next → IsNext p cs q next
+is-next p cs q next kind state line formed a e g = record {
   line = line;
   stands = ap (λ (ls : List Line). slice_get ls q.at) (code-at p q kind state a) ∙ e;
   ahead = jumps-ahead p kind state q.at line.instr (formed-instr p q kind state line formed a e);
   goes = g;
 }
 
-pub stops-at : (p : Program) (q : Place) (kind : Kind) (state : State) (line : Line) (stop : Option Value) → IsWellFormed p → IsAt p q kind state → slice_get state.code q.at ≡ Some line
-    → IsStop (act_at line.instr q) stop → StopsAt p q stop
-stops-at p q kind state line stop formed a e g = record {
+pub stops-at : (p : Program) (cs : Columns) (q : Place) (kind : Kind) (state : State) (line : Line) (stop : Option Value) → IsWellFormed p → IsAt p q kind state → slice_get state.code q.at ≡ Some line
+    → IsStop (act_at cs line.instr q) stop → StopsAt p cs q stop
+stops-at p cs q kind state line stop formed a e g = record {
   line = line;
   stands = ap (λ (ls : List Line). slice_get ls q.at) (code-at p q kind state a) ∙ e;
   ahead = jumps-ahead p kind state q.at line.instr (formed-instr p q kind state line formed a e);
   stops = g;
 }
 
-pub next-kind : (p : Program) (q next : Place) → IsNext p q next → (next.kind ≡ q.kind) × (next.state ≡ q.state)
-next-kind p q next n = let m = moves n.line.instr q next n.goes in (m.kind, m.state)
+pub next-kind : (p : Program) (cs : Columns) (q next : Place) → IsNext p cs q next → (next.kind ≡ q.kind) × (next.state ≡ q.state)
+next-kind p cs q next n = let m = moves cs n.line.instr q next n.goes in (m.kind, m.state)
 
 -- the task goes ahead, by fewer lines than the state has
-pub next-ahead : (p : Program) (q next : Place) → IsNext p q next → q.at < next.at
-next-ahead p q next n = let m = moves n.line.instr q next n.goes in elim m.goes [ inl g ↦ let e = g.0 in omega arith | inr j ↦ n.ahead next.at j ]
+pub next-ahead : (p : Program) (cs : Columns) (q next : Place) → IsNext p cs q next → q.at < next.at
+next-ahead p cs q next n = let m = moves cs n.line.instr q next n.goes in elim m.goes [ inl g ↦ let e = g.0 in omega arith | inr j ↦ n.ahead next.at j ]

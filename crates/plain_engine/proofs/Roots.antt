@@ -1,180 +1,48 @@
--- The roots of a program of the first form, one after another.
-use Rattle.std.proofs.Common.{◌≡◌, ℕ, zero, suc, ◌+◌, ◌<◌, ◌≤◌, true, ◌&&◌, Option, Some, None, List, [], ◌∷◌, ◌++◌, map, take, length, slice_get, refl, sym, ◌∙◌, ap, subst, ◌⊎◌, inl, inr, add-one, arith, append_assoc, length-append}
-use Rattle.std.specs.List.{list_all}
-use Rattle.task_syntax.specs.Places.{EachAt}
-use Rattle.first_form.specs.First.{IsFirst, is_first_kind, is_first_root, is_root_number, is_none, takes, is_regular}
-use Rattle.task_syntax.proofs.Bools.{both}
+-- The roots of a program, one after another.
+use Rattle.std.proofs.Common.{◌≡◌, ℕ, zero, suc, ◌+◌, ◌<◌, ◌≤◌, Option, Some, None, List, [], ◌∷◌, ◌++◌, map, take, length, slice_get, IfSome, refl, sym, ◌∙◌, ap, subst, ◌⊎◌, inl, inr, arith, length-append}
+use Rattle.std.proofs.lemmas.List.{take-take}
+use Rattle.std.proofs.lemmas.Option.{slice_get_within}
+use Rattle.task_syntax.specs.Places.{Each}
+use Rattle.task_syntax.specs.Form.{IsWellFormed, IsFormedRootArgument}
+use Rattle.task_syntax.specs.Valid.{IsValid, sort_of_root}
 use Rattle.task_syntax.specs.declared.value.Value.{Value}
+use Rattle.task_syntax.specs.declared.program.Sort.TheVariants as sort
 use Rattle.task_syntax.specs.declared.program.RootArgument.{RootArgument}
 use Rattle.task_syntax.specs.declared.program.RootArgument.TheVariants as root_argument
 use Rattle.task_syntax.specs.declared.program.Root.{Root as RootLine}
 use Rattle.task_syntax.specs.declared.program.Program.{Program}
-use Rattle.task_meaning.specs.Meant.{Meant, Counts, counted, plus, future_at, behind}
-use Rattle.task_meaning.specs.Frame.{Call}
-use Rattle.task_meaning.specs.Meaning.{mean, CallGives, CallCounts}
-use Rattle.task_meaning.specs.Roots.{root_number, root_future, root_call, values_of, mean_root, mean_roots, mean_roots_from, all_counts, roots_counts, RootGives}
-use Rattle.task_syntax.specs.Columns.{no_columns}
-use Rattle.plain_engine.specs.Carried.{IsCounted, CallIsPast, RootEndsSo, IsRootRun}
-use Rattle.plain_engine.specs.SoundEnd.{counts_of_first, OfFirst, IsPastLimit, IsCutFrom, IsSoundRootEnd, IsValue, IsSoundEnd}
+use Rattle.task_syntax.specs.declared.columns.Columns.{Columns}
+use Rattle.task_meaning.specs.Meant.{Counts, future_at}
+use Rattle.task_meaning.specs.Frame.{entry, variables_of, variables_in}
+use Rattle.task_meaning.specs.Meaning.{mean, rest, CallGives, CallCounts}
+use Rattle.task_meaning.specs.Roots.{root_future, root_call, values_of, mean_root, mean_roots, all_counts, roots_counts, RootGives}
+use Rattle.task_meaning.specs.Runs.{HasValue, IsReady}
+use Rattle.task_meaning.proofs.RootsInTurn.{roots-are_calls}
+use Rattle.plain_engine.specs.Carried.{IsCarried}
+use Rattle.plain_engine.specs.RunEnd.{RunEnd}
+use Rattle.plain_engine.specs.RootEnds.{roots_named, first_without_task, cut_from_root, values_at_ends, end_of}
+use Rattle.plain_engine.specs.SoundEnd.{counts_of_first, OfFirst, IsPastLimit, IsCutFrom, IsSoundRootEnd, IsCutAsNamed, IsValue, IsSoundEnd}
+use Rattle.plain_engine.specs.SoFar.{IsSoundSoFar}
 use Rattle.plain_engine.specs.declared.end.TheConstants.{LIMIT}
 use Rattle.plain_engine.specs.declared.end.RootEnd.{RootEnd}
 use Rattle.plain_engine.specs.declared.end.RootEnd.TheVariants.{Value as Ended, Cut}
+use Rattle.plain_engine.specs.declared.end.CutTag.{CutTag}
 use Rattle.plain_engine.specs.declared.end.CutTag.TheVariants.{Null, Limit}
 use Rattle.plain_engine.specs.declared.end.CutFrom.{CutFrom}
 use Rattle.plain_engine.specs.declared.end.CutFrom.TheVariants.{Host, Root, Task}
+use Rattle.plain_engine.proofs.Placed.{line-within}
+use Rattle.plain_engine.proofs.Sums.{first-fewer, counted-more, counted-one, some-same}
+use Rattle.plain_engine.proofs.Calls.{behind-counts}
+use Rattle.plain_engine.proofs.Values.{PassesHeld, argument-held}
+use Rattle.plain_engine.proofs.Named.{AllBelow, named-below, get-before, first-stays, IsFound, first-found}
+use Rattle.plain_engine.proofs.Earlier.{first-more, length-mean_roots, AreKnown, value-at, same-earlier}
 
--- a root of the first form passes numbers only, behind none, so what it means does not rest on earlier roots
-root_future-none : (earlier : List (Option Value)) (arguments : List RootArgument) → list_all is_root_number arguments ≡ true → map (root_future earlier) arguments ≡ map (root_future []) arguments
-root_future-none earlier [] h = refl
-root_future-none earlier (root_argument.Number n ∷ more) h = ap (λ xs. None ∷ xs) (root_future-none earlier more h)
-root_future-none earlier (root_argument.Root r ∷ more) h = cc
+-- the end so far with one root more
+abbrev pub ended : List RootEnd → RootEnd → ℕ → RunEnd
+ended ends end accepted = record { roots = ends ++ end ∷ []; accepted = accepted }
 
--- what a root of the first form means
-abbrev pub first_root : Program → ℕ → RootLine → Meant
-first_root p n root = mean p no_columns n (root_call [] root)
-
-mean_root-first : (p : Program) (n : ℕ) (earlier : List (Option Value)) (root : RootLine) → is_first_root p root ≡ true → mean_root p no_columns n earlier root ≡ first_root p n root
-mean_root-first p n earlier root h =
-    let a = both (takes p root.kind (length root.arguments) && list_all is_root_number root.arguments && is_none root.behind) (is_regular root.priority) h in
-    let b = both (takes p root.kind (length root.arguments) && list_all is_root_number root.arguments) (is_none root.behind) a.0 in
-    let c = both (takes p root.kind (length root.arguments)) (list_all is_root_number root.arguments) b.0 in
-    by root.behind b.1 ∙ ap (λ fs. mean p no_columns n (record { kind = root.kind; numbers = map root_number root.arguments; futures = fs })) (root_future-none earlier root.arguments c.1)
-  where
-    by : (waits : Option ℕ) → is_none waits ≡ true → behind waits earlier (mean p no_columns n (root_call earlier root)) ≡ mean p no_columns n (root_call earlier root)
-    by None h = refl
-    by (Some r) h = cc
-
-mean_roots_from-first : (p : Program) (n : ℕ) (earlier : List Meant) (roots : List RootLine) → list_all (is_first_root p) roots ≡ true
-    → mean_roots_from p no_columns n earlier roots ≡ earlier ++ map (first_root p n) roots
-mean_roots_from-first p n earlier [] h = sym (append_nil earlier) where
-  append_nil : (xs : List Meant) → xs ++ [] ≡ xs
-  append_nil [] = refl
-  append_nil (x ∷ xs) = ap (λ ys. x ∷ ys) (append_nil xs)
-mean_roots_from-first p n earlier (root ∷ roots) h =
-    let b = both (is_first_root p root) (list_all (is_first_root p) roots) h in
-    ap (λ m. mean_roots_from p no_columns n (earlier ++ m ∷ []) roots) (mean_root-first p n (values_of earlier) root b.0)
-    ∙ (mean_roots_from-first p n (earlier ++ first_root p n root ∷ []) roots b.1 ∙ append_assoc earlier (first_root p n root ∷ []) (map (first_root p n) roots))
-
-first-roots : (p : Program) → IsFirst p → list_all (is_first_root p) p.roots ≡ true
-first-roots p first = (both (list_all (is_first_kind p) p.kinds) (list_all (is_first_root p) p.roots) first).1
-
-mean_roots-first : (p : Program) (n : ℕ) → IsFirst p → mean_roots p no_columns n ≡ map (first_root p n) p.roots
-mean_roots-first p n first = mean_roots_from-first p n [] p.roots (first-roots p first)
-
--- counts, one root more
-take-map : {A B : Type 0} (f : A → B) (xs : List A) (i : ℕ) (x : A) → slice_get xs i ≡ Some x → take (i + 1) (map f xs) ≡ take i (map f xs) ++ f x ∷ []
-take-map {A = A} {B = B} f xs i x e = ap (λ n. take n (map f xs)) (add-one i) ∙ by xs i e where
-  by : (xs : List A) (i : ℕ) → slice_get xs i ≡ Some x → take (suc i) (map f xs) ≡ take i (map f xs) ++ f x ∷ []
-  by [] i e = cc
-  by (y ∷ ys) zero e = let s : y ≡ x = cc in ap (λ z. f z ∷ []) s
-  by (y ∷ ys) (suc i) e = ap (λ zs. f y ∷ zs) (by ys i e)
-
-get-map : {A B : Type 0} (f : A → B) (xs : List A) (i : ℕ) (x : A) → slice_get xs i ≡ Some x → slice_get (map f xs) i ≡ Some (f x)
-get-map f [] i x e = cc
-get-map f (y ∷ ys) zero x e = let s : y ≡ x = cc in ap (λ z. Some (f z)) s
-get-map f (y ∷ ys) (suc i) x e = get-map f ys i x e
-
-pub some-same : {X : Type 0} (o : Option X) (x y : X) → o ≡ Some x → o ≡ Some y → x ≡ y
-some-same o x y e g = cc
-
--- the counts of some, one, or both
-pub record Adds (a b : Option Counts) (k : Counts) : Type 0 where
-  pub first : Counts
-  pub second : Counts
-  pub is_first : a ≡ Some first
-  pub is_second : b ≡ Some second
-  pub activations : k.activations ≡ first.activations + second.activations
-
-pub plus-adds : (a b : Option Counts) (k : Counts) → plus a b ≡ Some k → Adds a b k
-plus-adds None b k e = cc
-plus-adds (Some a) None k e = cc
-plus-adds (Some a) (Some b) k e = let s : record { tasks = a.tasks + b.tasks; activations = a.activations + b.activations } ≡ k = cc in
-    record { first = a; second = b; is_first = refl; is_second = refl; activations = ap (λ (c : Counts). c.activations) (sym s) }
-
-all_counts-adds : (ms : List Meant) (m : Meant) (k : Counts) → all_counts (ms ++ m ∷ []) ≡ Some k → Adds (all_counts ms) m.counts k
-all_counts-adds [] m k e = let a = plus-adds m.counts (counted 0 0) k e in
-    let z : a.second.activations ≡ 0 = ap (λ (c : Counts). c.activations) (some-same (counted 0 0) a.second _ a.is_second refl) in
-    record { first = record { tasks = 0; activations = 0 }; second = a.first; is_first = refl; is_second = a.is_first; activations = omega (arith, a.activations) }
-all_counts-adds (x ∷ xs) m k e = let a = plus-adds x.counts (all_counts (xs ++ m ∷ [])) k e in
-    let b = all_counts-adds xs m a.second a.is_second in
-    let s : plus x.counts (all_counts xs) ≡ counted (a.first.tasks + b.first.tasks) (a.first.activations + b.first.activations) = ap (λ o. plus o (all_counts xs)) a.is_first ∙ ap (λ o. plus (Some a.first) o) b.is_first in
-    record {
-      first = record { tasks = a.first.tasks + b.first.tasks; activations = a.first.activations + b.first.activations };
-      second = b.second;
-      is_first = s;
-      is_second = b.is_second;
-      activations = omega (arith, a.activations, b.activations);
-    }
-
--- the end so far, where these roots were run
-pub record IsSoundSoFar (p : Program) (many : ℕ) (ends : List RootEnd) (accepted : ℕ) : Type 0 where
-  pub as_many : length ends ≡ many
-  pub within : accepted ≤ LIMIT
-  pub roots : EachAt ends (IsSoundRootEnd p accepted)
-  pub counted : OfFirst p many (λ activations. (accepted ≡ activations) ⊎ (LIMIT < activations))
-
--- what the roots up to one count is what those before it count, and what it counts
-first-more : (p : Program) (at : ℕ) (root : RootLine) → IsFirst p → slice_get p.roots at ≡ Some root → (n : ℕ) (k : Counts) → counts_of_first p n (at + 1) ≡ Some k
-    → Adds (counts_of_first p n at) (first_root p n root).counts k
-first-more p at root first e n k h =
-    let r = mean_roots-first p n first in
-    let t : take (at + 1) (mean_roots p no_columns n) ≡ take at (mean_roots p no_columns n) ++ first_root p n root ∷ [] =
-    ap (λ ms. take (at + 1) ms) r ∙ (take-map (first_root p n) p.roots at root e ∙ ap (λ ms. take at ms ++ first_root p n root ∷ []) (sym r)) in
-    all_counts-adds (take at (mean_roots p no_columns n)) (first_root p n root) k (ap all_counts (sym t) ∙ h)
-
-index-map : {A : Type 0} (f : A → Meant) (xs : List A) (i : ℕ) (x : A) → slice_get xs i ≡ Some x → future_at (values_of (map f xs)) i ≡ (f x).value
-index-map f [] i x e = cc
-index-map f (y ∷ ys) zero x e = let s : y ≡ x = cc in ap (λ z. (f z).value) s
-index-map f (y ∷ ys) (suc i) x e = index-map f ys i x e
-
-root-gives : (p : Program) (at : ℕ) (root : RootLine) (v : Value) → IsFirst p → slice_get p.roots at ≡ Some root → CallGives p no_columns (root_call [] root) v → RootGives p no_columns at v
-root-gives p at root v first e g = (g.0, ap (λ ms. future_at (values_of ms) at) (mean_roots-first p g.0 first) ∙ (index-map (first_root p g.0) p.roots at root e ∙ g.1))
-
--- a cut stays sound when more is accepted
-cut-later : (p : Program) (accepted later at : ℕ) (from : CutFrom) → accepted ≤ later → IsCutFrom p accepted at from → IsCutFrom p later at from
-cut-later p accepted later at Host h c = c
-cut-later p accepted later at (Root r) h c = absurd c
-cut-later p accepted later at (Task t) h c = (c.0, omega (arith, c.1), c.2)
-
-end-later : (p : Program) (accepted later at : ℕ) (end : RootEnd) → accepted ≤ later → later ≤ LIMIT → IsSoundRootEnd p accepted at end → IsSoundRootEnd p later at end
-end-later p accepted later at (Ended v) h w s = s
-end-later p accepted later at (Cut Null from) h w s = absurd s
-end-later p accepted later at (Cut Limit from) h w s = (omega (arith, s.0), s.1, cut-later p accepted later at from h s.2)
-
-past-limit : (p : Program) (before at : ℕ) (root : RootLine) → IsFirst p → slice_get p.roots at ≡ Some root → OfFirst p at (λ activations. (before ≡ activations) ⊎ (LIMIT < activations))
-    → CallIsPast p (root_call [] root) before → IsPastLimit p at
-past-limit p before at root first e counted past n k h = let a = first-more p at root first e n k h in
-    let g = past a.second (n, a.is_second) in
-    elim (counted n a.first a.is_first) [ inl s ↦ omega (arith, g, a.activations) | inr s ↦ omega (arith, a.activations) ]
-
-end-now : (p : Program) (before accepted at : ℕ) (root : RootLine) (end : RootEnd) → IsFirst p → slice_get p.roots at ≡ Some root
-    → OfFirst p at (λ activations. (before ≡ activations) ⊎ (LIMIT < activations)) → RootEndsSo p (root_call [] root) before accepted end → IsSoundRootEnd p accepted at end
-end-now p before accepted at root (Ended v) first e counted r = root-gives p at root v first e r.0
-end-now p before accepted at root (Cut Null from) first e counted r = absurd r
-end-now p before accepted at root (Cut Limit Host) first e counted r =
-    (r.0, past-limit p before at root first e counted r.2, λ n k h. elim (counted n k h) [ inl s ↦ omega (arith, r.1) | inr s ↦ omega arith ])
-end-now p before accepted at root (Cut Limit (Root r)) first e counted h = absurd h
-end-now p before accepted at root (Cut Limit (Task t)) first e counted r =
-    (r.0, past-limit p before at root first e counted r.3, (omega (arith, r.1), r.2, λ n k h within. elim (counted n k h) [ inl s ↦ omega (arith, r.1) | inr s ↦ absurd (omega (arith, within)) ]))
-
-ends-counted : (p : Program) (call : Call) (before accepted : ℕ) (end : RootEnd) → RootEndsSo p call before accepted end → (k : Counts) → CallCounts p no_columns call k → IsCounted before accepted k
-ends-counted p call before accepted (Ended v) r k c = r.1 k c
-ends-counted p call before accepted (Cut Null from) r k c = absurd r
-ends-counted p call before accepted (Cut Limit Host) r k c = inr (r.2 k c)
-ends-counted p call before accepted (Cut Limit (Root a)) r k c = absurd r
-ends-counted p call before accepted (Cut Limit (Task t)) r k c = inr (r.3 k c)
-
-counted-now : (p : Program) (before accepted at : ℕ) (root : RootLine) (end : RootEnd) → IsFirst p → slice_get p.roots at ≡ Some root
-    → OfFirst p at (λ activations. (before ≡ activations) ⊎ (LIMIT < activations)) → RootEndsSo p (root_call [] root) before accepted end
-    → OfFirst p (at + 1) (λ activations. (accepted ≡ activations) ⊎ (LIMIT < activations))
-counted-now p before accepted at root end first e counted r n k h = let a = first-more p at root first e n k h in
-    elim (counted n a.first a.is_first) [
-      | inl s ↦ elim (ends-counted p (root_call [] root) before accepted end r a.second (n, a.is_second)) [
-        | inl t ↦ inl (omega (arith, a.activations, t))
-        | inr t ↦ inr (omega (arith, a.activations, t))
-      ]
-      | inr s ↦ inr (omega (arith, a.activations))
-    ]
+abbrev pub so_far : List RootEnd → ℕ → RunEnd
+so_far ends accepted = record { roots = ends; accepted = accepted }
 
 get-snoc : {A : Type 0} (xs : List A) (x y : A) (i : ℕ) → slice_get (xs ++ x ∷ []) i ≡ Some y → (slice_get xs i ≡ Some y) ⊎ ((i ≡ length xs) × (x ≡ y))
 get-snoc [] x y zero e = inr (refl, cc)
@@ -182,38 +50,232 @@ get-snoc [] x y (suc i) e = cc
 get-snoc (z ∷ zs) x y zero e = inl e
 get-snoc (z ∷ zs) x y (suc i) e = elim (get-snoc zs x y i e) [ inl s ↦ inl s | inr s ↦ inr (ap suc s.0, s.1) ]
 
-pub sound-none : (p : Program) → IsSoundSoFar p 0 [] 0
-sound-none p = record {
-  as_many = refl;
+-- what was sound of an earlier root stays so
+cut-later : (p : Program) (cs : Columns) (ends : List RootEnd) (end : RootEnd) (accepted later at : ℕ) (from : CutFrom) → accepted ≤ later → at < length ends
+    → IsCutFrom p cs (so_far ends accepted) at from → IsCutFrom p cs (ended ends end later) at from
+cut-later p cs ends end accepted later at Host h l c = c
+cut-later p cs ends end accepted later at (Root r) h l c = (c.0, (c.1.0, get-before ends end r (omega (arith, c.0, l)) ∙ c.1.1))
+cut-later p cs ends end accepted later at (Task t) h l c = (c.0, omega (arith, c.1, h), c.2)
+
+end-later : (p : Program) (cs : Columns) (ends : List RootEnd) (end x : RootEnd) (accepted later at : ℕ) → accepted ≤ later → later ≤ LIMIT → at < length ends
+    → IsSoundRootEnd p cs (so_far ends accepted) at x → IsSoundRootEnd p cs (ended ends end later) at x
+end-later p cs ends end (Ended v) accepted later at h w l s = s
+end-later p cs ends end (Cut Null from) accepted later at h w l s = absurd s
+end-later p cs ends end (Cut Limit from) accepted later at h w l s = (omega (arith, s.0, h, w), s.1, cut-later p cs ends end accepted later at from h l s.2)
+
+named-later : (p : Program) (ends : List RootEnd) (end x : RootEnd) (at : ℕ) → IsWellFormed p → at ≤ length ends → IsCutAsNamed p ends at x → IsCutAsNamed p (ends ++ end ∷ []) at x
+named-later p ends end x at formed l n root e = n root e ∙ sym (first-stays ends end (roots_named root) (below-more (length ends) at (roots_named root) l (named-below p at root (formed.roots at root e))))
+  where
+    below-more : (m n : ℕ) (rs : List ℕ) → n ≤ m → AllBelow n rs → AllBelow m rs
+    below-more m n [] h b = tt
+    below-more m n (r ∷ rs) h b = (omega (arith, h, b.0), below-more m n rs h b.1)
+
+-- the roots counted together, behind one more
+abbrev pub IsCountedNow : Program → Columns → ℕ → ℕ → Type 0
+IsCountedNow p cs many accepted = OfFirst p cs many (λ activations. (accepted ≡ activations) ⊎ (LIMIT < activations))
+
+-- one root more
+pub sound-more : (p : Program) (cs : Columns) (ends : List RootEnd) (end : RootEnd) (before accepted : ℕ) (root : RootLine) → IsWellFormed p → slice_get p.roots (length ends) ≡ Some root
+    → IsSoundSoFar p cs (so_far ends before) → before ≤ accepted → accepted ≤ LIMIT → IsSoundRootEnd p cs (ended ends end accepted) (length ends) end
+    → cut_from_root end ≡ first_without_task ends (roots_named root) → IsCountedNow p cs (length ends + 1) accepted → Each (ends ++ end ∷ []) IsValue ⊎ (accepted ≡ LIMIT)
+    → IsSoundSoFar p cs (ended ends end accepted)
+sound-more p cs ends end before accepted root formed e s rises within sound named counted below = record {
+  within = within;
+  roots = λ at x h. elim (get-snoc ends end x at h) [
+    | inl g ↦ end-later p cs ends end x before accepted at rises within (slice_get_within ends at x g) (s.roots at x g)
+    | inr g ↦ let P : ℕ → RootEnd → Type 0 = λ i y. IsSoundRootEnd p cs (ended ends end accepted) i y in
+        subst (λ i. P i x) (sym g.0) (subst (λ y. P (length ends) y) g.1 sound)
+  ];
+  named = λ at x h. elim (get-snoc ends end x at h) [
+    | inl g ↦ let w = slice_get_within ends at x g in named-later p ends end x at formed (omega (arith, w)) (s.named at x g)
+    | inr g ↦ let P : ℕ → RootEnd → Type 0 = λ i y. IsCutAsNamed p (ends ++ end ∷ []) i y in
+        subst (λ i. P i x) (sym g.0) (subst (λ y. P (length ends) y) g.1 (named-later p ends end end (length ends) formed (omega arith)
+        (λ r f. let same : root ≡ r = some-same (slice_get p.roots (length ends)) root r e f in named ∙ ap (λ (y : RootLine). first_without_task ends (roots_named y)) same)))
+  ];
+  counted = let l : length (ends ++ end ∷ []) ≡ length ends + 1 = length-append ends (end ∷ []) in subst (λ n. IsCountedNow p cs n accepted) (sym l) counted;
+  below = below;
+}
+
+past-counted : (p : Program) (cs : Columns) (at accepted : ℕ) → IsPastLimit p cs at → IsCountedNow p cs (at + 1) accepted
+past-counted p cs at accepted past n k e = inr (past n k e)
+
+-- a root that goes past the limit takes those behind it past it
+past-on : (p : Program) (cs : Columns) (earlier at : ℕ) → earlier < at → IsPastLimit p cs earlier → IsPastLimit p cs at
+past-on p cs earlier at h past n k e =
+    let ms = mean_roots p cs n in
+    let (c, f, g) = first-fewer (take (at + 1) ms) (earlier + 1) k e in
+    let l : LIMIT < c.activations = past n c (ap all_counts (sym (take-take (earlier + 1) (at + 1) ms (omega (arith, h)))) ∙ f) in
+    omega (arith, l, g)
+
+-- a root that names one without a task
+pub passed-on : (p : Program) (cs : Columns) (ends : List RootEnd) (accepted j : ℕ) (tag : CutTag) (root : RootLine) → IsWellFormed p → slice_get p.roots (length ends) ≡ Some root
+    → IsSoundSoFar p cs (so_far ends accepted) → first_without_task ends (roots_named root) ≡ Some (j, tag) → IsSoundSoFar p cs (ended ends (Cut tag (Root j)) accepted)
+passed-on p cs ends accepted j tag root formed e s found =
+    let f = first-found ends (length ends) j tag (roots_named root) (named-below p (length ends) root (formed.roots (length ends) root e)) found in
+    by tag f (s.roots j (Cut tag f.from) f.end) found
+  where
+    by : (t : CutTag) (f : IsFound ends (length ends) j t) → IsSoundRootEnd p cs (so_far ends accepted) j (Cut t f.from) → first_without_task ends (roots_named root) ≡ Some (j, t)
+        → IsSoundSoFar p cs (ended ends (Cut t (Root j)) accepted)
+    by Null f sound found = absurd sound
+    by Limit f sound found =
+        let past = past-on p cs j (length ends) f.earlier sound.1 in
+        sound-more p cs ends (Cut Limit (Root j)) accepted accepted root formed e s (omega arith) s.within
+        (sound.0, past, (f.earlier, (f.from, get-before ends (Cut Limit (Root j)) j f.earlier ∙ f.end)))
+        (sym found) (past-counted p cs (length ends) accepted past) (inr sound.0)
+
+pub none-found : (ends : List RootEnd) (root : RootLine) (o : Option (ℕ × CutTag)) → o ≡ first_without_task ends (roots_named root) → ((x : ℕ × CutTag) → ¬ (o ≡ Some x))
+    → first_without_task ends (roots_named root) ≡ None
+none-found ends root None e h = sym e
+none-found ends root (Some x) e h = absurd (h x refl)
+
+-- a root is counted with one activation at least
+one-at_least : (p : Program) (cs : Columns) (n : ℕ) (earlier : List (Option Value)) (root : RootLine) (k : Counts) → (mean_root p cs n earlier root).counts ≡ Some k → 1 ≤ k.activations
+one-at_least p cs n earlier root k e =
+    let call = root_call earlier root in
+    let (less, f, s) = counted-more (rest p cs n (entry p call)).counts 1 1 k (behind-counts root.behind earlier (mean p cs n call) k e) in omega (arith, s)
+
+-- a root that meets the limit
+pub refused : (p : Program) (cs : Columns) (ends : List RootEnd) (accepted : ℕ) (root : RootLine) → IsWellFormed p → slice_get p.roots (length ends) ≡ Some root
+    → IsSoundSoFar p cs (so_far ends accepted) → first_without_task ends (roots_named root) ≡ None → accepted ≡ LIMIT → IsSoundSoFar p cs (ended ends (Cut Limit Host) accepted)
+refused p cs ends accepted root formed e s none met =
+    let up : OfFirst p cs (length ends) (λ activations. LIMIT ≤ activations) = λ n k h. elim (s.counted n k h) [ inl g ↦ omega (arith, g, met) | inr g ↦ omega (arith, g) ] in
+    let past : IsPastLimit p cs (length ends) = λ n k h.
+    let a = first-more p cs n (length ends) root k e h in
+    let least = one-at_least p cs n (values_of (take (length ends) (mean_roots p cs n))) root a.second a.is_second in
+    let l = up n a.first a.is_first in omega (arith, least, l, a.activations) in
+    sound-more p cs ends (Cut Limit Host) accepted accepted root formed e s (omega arith) s.within (met, past, up) (sym none) (past-counted p cs (length ends) accepted past) (inr met)
+
+-- below the limit the ends are values
+pub known : (p : Program) (cs : Columns) (ends : List RootEnd) (accepted : ℕ) → accepted < LIMIT → IsSoundSoFar p cs (so_far ends accepted) → AreKnown p cs ends
+known p cs ends accepted below s = record {
+  values = elim s.below [ inl v ↦ v | inr l ↦ absurd (omega (arith, l, below)) ];
+  give = λ at v e. s.roots at (Ended v) e;
+}
+
+-- the values of the ends
+pub record Valued (ends : List RootEnd) : Type 0 where
+  pub values : List Value
+  pub many : length values ≡ length ends
+  pub same : values_at_ends ends ≡ map Some values
+  pub at_end : (at : ℕ) (v : Value) → slice_get values at ≡ Some v → slice_get ends at ≡ Some (Ended v)
+
+valued : (ends : List RootEnd) → Each ends IsValue → Valued ends
+valued [] h = record { values = []; many = refl; same = refl; at_end = λ at v e. cc }
+valued (Cut tag from ∷ ends) h = absurd (h zero (Cut tag from) refl)
+valued (Ended v ∷ ends) h =
+    let r = valued ends (λ at x e. h (suc at) x e) in
+    record {
+      values = v ∷ r.values;
+      many = ap suc r.many;
+      same = ap (λ (xs : List (Option Value)). Some v ∷ xs) r.same;
+      at_end = λ at w e. first r at w e;
+    }
+  where
+    first : (r : Valued ends) (at : ℕ) (w : Value) → slice_get (v ∷ r.values) at ≡ Some w → slice_get (Ended v ∷ ends) at ≡ Some (Ended w)
+    first r zero w e = let s : v ≡ w = cc in ap (λ x. Some (Ended x)) s
+    first r (suc at) w e = r.at_end at w e
+
+-- a root waits for an earlier one, which has a value
+ready : (p : Program) (cs : Columns) (ends : List RootEnd) (behind : Option ℕ) → Each ends IsValue → IfSome behind (λ earlier. earlier < length ends) → IsReady (values_at_ends ends) behind
+ready p cs ends None h l = tt
+ready p cs ends (Some r) h l = let (v, e, f) = value-at p cs ends r h l in (v, f)
+
+-- what the call of a root gives the root has
+root-gives : (p : Program) (cs : Columns) (ends : List RootEnd) (root : RootLine) (v : Value) → IsWellFormed p → slice_get p.roots (length ends) ≡ Some root → AreKnown p cs ends
+    → CallGives p cs (root_call (values_at_ends ends) root) v → RootGives p cs (length ends) v
+root-gives p cs ends root v formed e k g =
+    let w = valued ends k.values in
+    let at : slice_get p.roots (length w.values) ≡ Some root = ap (slice_get p.roots) w.many ∙ e in
+    let r : IsReady (map Some w.values) root.behind = subst (λ fs. IsReady fs root.behind) w.same (ready p cs ends root.behind k.values (formed.roots (length ends) root e).behind) in
+    let here = (roots-are_calls p cs w.values root v at (λ i u f. k.give i u (w.at_end i u f)) r).0
+    (subst (λ (fs : List (Option Value)). CallGives p cs (root_call fs root) v) w.same g) in
+    subst (λ i. RootGives p cs i v) w.many here
+
+-- what the meaning counts of the root its call counts
+root-counts : (p : Program) (cs : Columns) (n : ℕ) (ends : List RootEnd) (root : RootLine) (a b : Counts) → slice_get p.roots (length ends) ≡ Some root → AreKnown p cs ends
+    → counts_of_first p cs n (length ends) ≡ Some a → (mean_root p cs n (values_of (take (length ends) (mean_roots p cs n))) root).counts ≡ Some b
+    → CallCounts p cs (root_call (values_at_ends ends) root) b
+root-counts p cs n ends root a b e k f g =
+    let many = slice_get_within p.roots (length ends) root e in
+    let same = same-earlier p cs n ends a k (omega (arith, many)) f in (
+      n,
+      behind-counts root.behind (values_at_ends ends) (mean p cs n (root_call (values_at_ends ends) root)) b
+          (ap (λ (fs : List (Option Value)). (mean_root p cs n fs root).counts) (sym same) ∙ g),
+    )
+
+-- a root that was run as a task
+pub ran : (p : Program) (cs : Columns) (ends : List RootEnd) (before accepted : ℕ) (value : Option Value) (root : RootLine) → IsWellFormed p → slice_get p.roots (length ends) ≡ Some root
+    → IsSoundSoFar p cs (so_far ends before) → first_without_task ends (roots_named root) ≡ None → before < LIMIT
+    → IsCarried p cs (entry p (root_call (values_at_ends ends) root)) (before + 1) accepted value → IsSoundSoFar p cs (ended ends (end_of value (before + 1)) accepted)
+ran p cs ends before accepted value root formed e s none below carried = by value carried
+  where
+    k : AreKnown p cs ends
+    k = known p cs ends before below s
+
+    counts : (P : ℕ → Type 0) → ((more activations : ℕ) → (Q : Counts) → CallCounts p cs (root_call (values_at_ends ends) root) Q → (before ≡ more) ⊎ (LIMIT < more) → activations ≡ more + Q.activations → P activations)
+        → OfFirst p cs (length ends + 1) P
+    counts P h n c f =
+        let a = first-more p cs n (length ends) root c e f in
+        h a.first.activations c.activations a.second (root-counts p cs n ends root a.first a.second e k a.is_first a.is_second) (s.counted n a.first a.is_first) a.activations
+
+    by : (o : Option Value) → IsCarried p cs (entry p (root_call (values_at_ends ends) root)) (before + 1) accepted o → IsSoundSoFar p cs (ended ends (end_of o (before + 1)) accepted)
+    by (Some v) c =
+        sound-more p cs ends (Ended v) before accepted root formed e s (omega (arith, c.rises)) c.within
+        (root-gives p cs ends root v formed e k (c.ends.0.0, c.ends.0.1)) (sym none)
+        (counts (λ activations. (accepted ≡ activations) ⊎ (LIMIT < activations)) (λ more activations q g m t.
+        let (less, f, u) = counted-one p cs (root_call (values_at_ends ends) root) q g in
+        elim m [
+          | inl x ↦ elim (c.ends.1 less (g.0, f)) [ inl y ↦ inl (omega (arith, t, u, x, y)) | inr y ↦ inr (omega (arith, t, u, x, y)) ]
+          | inr x ↦ inr (omega (arith, t, x))
+        ]))
+        (inl (values-more ends v k.values))
+      where
+        values-more : (xs : List RootEnd) (v : Value) → Each xs IsValue → Each (xs ++ Ended v ∷ []) IsValue
+        values-more xs v h at x f = elim (get-snoc xs (Ended v) x at f) [ inl g ↦ h at x g | inr g ↦ subst IsValue g.1 tt ]
+    by None c =
+        let past : IsPastLimit p cs (length ends) = counts (λ activations. LIMIT < activations) (λ more activations q g m t.
+        let (less, f, u) = counted-one p cs (root_call (values_at_ends ends) root) q g in
+        let y = c.ends.1 less (g.0, f) in
+        elim m [ inl x ↦ omega (arith, t, u, x, y) | inr x ↦ omega (arith, t, x) ]) in
+        sound-more p cs ends (Cut Limit (Task (before + 1))) before accepted root formed e s (omega (arith, c.rises)) c.within
+        (c.ends.0, past, (omega arith, c.rises, λ n a f w. elim (s.counted n a f) [ inl x ↦ omega (arith, x) | inr x ↦ absurd (omega (arith, x, w)) ]))
+        (sym none) (past-counted p cs (length ends) accepted past) (inr c.ends.0)
+
+passed-at : (fs : List (Option Value)) (arguments : List RootArgument) (x : ℕ) (a : RootArgument) → slice_get arguments x ≡ Some a → future_at (map (root_future fs) arguments) x ≡ root_future fs a
+passed-at fs [] x a e = cc
+passed-at fs (b ∷ arguments) zero a e = let s : b ≡ a = cc in ap (root_future fs) s
+passed-at fs (b ∷ arguments) (suc x) a e = passed-at fs arguments x a e
+
+-- a root passes values, where the earlier ones have values
+pub root-passes : (p : Program) (cs : Columns) (ends : List RootEnd) (root : RootLine) → IsWellFormed p → IsValid p → slice_get p.roots (length ends) ≡ Some root → Each ends IsValue
+    → PassesHeld p (root_call (values_at_ends ends) root)
+root-passes p cs ends root formed valid e values kind first is_kind is_first x h =
+    let agrees = (valid.roots (length ends) root e).agrees kind is_kind in
+    let (a, i, s) = argument-held p sort_of_root root.kind kind first root.arguments x formed valid is_kind is_first agrees h in
+    by a i s ((formed.roots (length ends) root e).arguments x a i)
+  where
+    by : (a : RootArgument) → slice_get root.arguments x ≡ Some a → sort.Future ≡ sort_of_root a → IsFormedRootArgument (length ends) a
+        → HasValue (map (root_future (values_at_ends ends)) root.arguments) x
+    by (root_argument.Number n) i s f = cc
+    by (root_argument.Root r) i s f = let (v, g, j) = value-at p cs ends r values f in (v, passed-at (values_at_ends ends) root.arguments x (root_argument.Root r) i ∙ j)
+
+-- the kind of a root has a variable for each argument
+pub root-fits : (p : Program) (at n : ℕ) (root : RootLine) → IsWellFormed p → IsValid p → slice_get p.roots at ≡ Some root → n ≡ length root.arguments → n ≤ variables_of p root.kind
+root-fits p at n root formed valid e l =
+    let (k, is_kind) = line-within p.kinds root.kind (formed.roots at root e).kind in
+    let a = ((valid.roots at root e).agrees k is_kind).0 in
+    let f = (formed.kinds root.kind k is_kind).arguments_are_variables in
+    let v : variables_of p root.kind ≡ length k.variables = ap variables_in is_kind in
+    omega (arith, l, a, f, v)
+
+pub sound-none : (p : Program) (cs : Columns) → IsSoundSoFar p cs (so_far [] 0)
+sound-none p cs = record {
   within = omega arith;
   roots = λ i end e. cc;
+  named = λ i end e. cc;
   counted = λ n k e. let s : 0 ≡ k.activations = ap (λ (o : Counts). o.activations) (some-same (Some (record { tasks = 0; activations = 0 })) (record { tasks = 0; activations = 0 }) k refl e) in inl s;
+  below = inl (λ i end e. cc);
 }
-
-pub sound-more : (p : Program) (at before accepted : ℕ) (ends : List RootEnd) (root : RootLine) (end : RootEnd) → IsFirst p → slice_get p.roots at ≡ Some root
-    → IsSoundSoFar p at ends before → IsRootRun p (root_call [] root) before accepted end → IsSoundSoFar p (at + 1) (ends ++ end ∷ []) accepted
-sound-more p at before accepted ends root end first e s r = record {
-  as_many = length-append ends (end ∷ []) ∙ ap (λ n. n + 1) s.as_many;
-  within = r.within;
-  roots = λ i x h. elim (get-snoc ends end x i h) [
-    | inl g ↦ end-later p before accepted i x r.rises r.within (s.roots i x g)
-    | inr g ↦ let j : at ≡ i = omega (arith, s.as_many, g.0) in
-        subst (λ n. IsSoundRootEnd p accepted n x) j (subst (λ y. IsSoundRootEnd p accepted at y) g.1 (end-now p before accepted at root end first e s.counted r.ends))
-  ];
-  counted = counted-now p before accepted at root end first e s.counted r.ends;
-}
-
--- the first of some counts are no more than all
-first-fewer : (ms : List Meant) (j : ℕ) (k : Counts) → all_counts ms ≡ Some k → (c : Counts) × (all_counts (take j ms) ≡ Some c) × (c.activations ≤ k.activations)
-first-fewer [] zero k e = (k, e, omega arith)
-first-fewer [] (suc j) k e = (k, e, omega arith)
-first-fewer (m ∷ ms) zero k e = (record { tasks = 0; activations = 0 }, refl, omega arith)
-first-fewer (m ∷ ms) (suc j) k e = let a = plus-adds m.counts (all_counts ms) k e in
-    let f = first-fewer ms j a.second a.is_second in (
-      record { tasks = a.first.tasks + f.0.tasks; activations = a.first.activations + f.0.activations },
-      ap (λ o. plus o (all_counts (take j ms))) a.is_first ∙ ap (λ o. plus (Some a.first) o) f.1,
-      omega (arith, a.activations, f.2),
-    )
 
 take-all : {A : Type 0} (xs : List A) (n : ℕ) → n ≡ length xs → take n xs ≡ xs
 take-all [] zero e = refl
@@ -221,27 +283,23 @@ take-all [] (suc n) e = refl
 take-all (x ∷ xs) zero e = absurd (omega (arith, e))
 take-all (x ∷ xs) (suc n) e = ap (λ ys. x ∷ ys) (take-all xs n (omega (arith, e)))
 
-pub length-map : {A B : Type 0} (f : A → B) (xs : List A) → length (map f xs) ≡ length xs
-length-map f [] = refl
-length-map f (x ∷ xs) = ap suc (length-map f xs)
+no-cut : (p : Program) (cs : Columns) (e : RunEnd) (at n : ℕ) (k : Counts) (end : RootEnd) → roots_counts p cs n ≡ Some k → k.activations ≤ LIMIT → IsSoundRootEnd p cs e at end → IsValue end
+no-cut p cs e at n k (Ended v) f h s = tt
+no-cut p cs e at n k (Cut Null from) f h s = s
+no-cut p cs e at n k (Cut Limit from) f h s = let (c, g, l) = first-fewer (mean_roots p cs n) (at + 1) k f in
+    let past = s.1 n c g in absurd (omega (arith, l, h, past))
 
-all-first : (p : Program) (n : ℕ) → IsFirst p → counts_of_first p n (length p.roots) ≡ roots_counts p no_columns n
-all-first p n first = ap all_counts (take-all (mean_roots p no_columns n) (length p.roots)
-    (sym (ap length (mean_roots-first p n first) ∙ length-map (first_root p n) p.roots)))
-
-no-cut : (p : Program) (accepted at n : ℕ) (k : Counts) (end : RootEnd) → roots_counts p no_columns n ≡ Some k → k.activations ≤ LIMIT → IsSoundRootEnd p accepted at end → IsValue end
-no-cut p accepted at n k (Ended v) e h s = tt
-no-cut p accepted at n k (Cut Null from) e h s = s
-no-cut p accepted at n k (Cut Limit from) e h s = let f = first-fewer (mean_roots p no_columns n) (at + 1) k e in
-    let g = s.1 n f.0 f.1 in absurd (omega (arith, f.2, h, g))
-
-pub sound-end : (p : Program) (ends : List RootEnd) (accepted : ℕ) → IsFirst p → IsSoundSoFar p (length p.roots) ends accepted → IsSoundEnd p (record { roots = ends; accepted = accepted })
-sound-end p ends accepted first s = record {
-  as_many = s.as_many;
+-- the end, where all roots were run
+pub sound-end : (p : Program) (cs : Columns) (ends : List RootEnd) (accepted : ℕ) → length ends ≡ length p.roots → IsSoundSoFar p cs (so_far ends accepted) → IsSoundEnd p cs (so_far ends accepted)
+sound-end p cs ends accepted many s = record {
+  as_many = many;
   within = s.within;
   roots = s.roots;
-  complete = λ n k e h. record {
-    accepted = elim (s.counted n k (all-first p n first ∙ e)) [ inl g ↦ g | inr g ↦ absurd (omega (arith, h)) ];
-    values = λ i end g. no-cut p accepted i n k end e h (s.roots i end g);
-  };
+  named = s.named;
+  complete = λ n k e h.
+      let all : counts_of_first p cs n (length ends) ≡ Some k = ap all_counts (take-all (mean_roots p cs n) (length ends) (many ∙ sym (length-mean_roots p cs n))) ∙ e in
+      record {
+        accepted = elim (s.counted n k all) [ inl g ↦ g | inr g ↦ absurd (omega (arith, g, h)) ];
+        values = λ i end g. no-cut p cs (so_far ends accepted) i n k end e h (s.roots i end g);
+      };
 }

@@ -1,16 +1,12 @@
 -- What is known of the futures of running tasks stays so along their code, over respawns, and behind calls.
-use Rattle.std.proofs.Common.{◌≡◌, ℕ, ◌≤◌, Bool, true, false, cond, nat_eq, Option, Some, None, List, length, slice_get, slice_set, refl, sym, ◌∙◌, ap, subst, inl, inr, arith}
-use Rattle.std.specs.List.{list_all}
+use Rattle.std.proofs.Common.{◌≡◌, ℕ, ◌<◌, ◌≤◌, Bool, true, false, cond, nat_eq, Option, Some, None, List, length, slice_get, slice_set, refl, sym, ◌∙◌, ap, subst, inl, inr, arith}
 use Rattle.std.specs.Option.{option_map}
 use Rattle.std.proofs.lemmas.Bool.{eqb-true}
 use Rattle.std.proofs.lemmas.List.{set-get_or}
 use Rattle.task_syntax.specs.Places.{instr_at}
 use Rattle.task_syntax.specs.Facts.{Facts, has, members_of, renewed, after}
-use Rattle.task_syntax.specs.Form.{IsWellFormed}
+use Rattle.task_syntax.specs.Form.{IsWellFormed, IsFormedInstr}
 use Rattle.task_syntax.specs.Valid.{Way, goes_on, jumps, JumpsTo, IsSoundInstr, IsSoundState, IsValid}
-use Rattle.first_form.specs.First.{IsFirst, is_first_kind, is_first_state, is_first_root, allows, allows_from}
-use Rattle.task_syntax.proofs.Bools.{both, list_all-at}
-use Rattle.first_form.proofs.FirstWays.{allowed_at}
 use Rattle.task_syntax.specs.declared.value.Value.{Value}
 use Rattle.task_syntax.specs.declared.value.Value.TheVariants.{Number, Trapped}
 use Rattle.task_syntax.specs.declared.instr.Instr.{Instr}
@@ -19,16 +15,16 @@ use Rattle.task_syntax.specs.declared.instr.Line.{Line}
 use Rattle.task_syntax.specs.declared.program.State.{State}
 use Rattle.task_syntax.specs.declared.program.Kind.{Kind}
 use Rattle.task_syntax.specs.declared.program.Program.{Program}
+use Rattle.task_syntax.specs.declared.columns.Columns.{Columns}
 use Rattle.task_meaning.specs.Meant.{future_at}
 use Rattle.task_meaning.specs.Frame.{Place, code_at, code_in, state_in, set_number, operand}
-use Rattle.task_meaning.specs.Arithmetic.{computed}
+use Rattle.task_meaning.specs.Arithmetic.{computed, cell_at}
 use Rattle.task_meaning.specs.Acts.{act_of, steps_with, Steps}
 use Rattle.plain_engine.specs.Place.{IsPlaced, NamesIn}
-use Rattle.task_syntax.specs.Columns.{no_columns}
-use Rattle.plain_engine.specs.Steps.{act_at, settled_act, read_of, NeedsTasks, IsNext, Reaches, here, onward, StopsAt, DoesAt, StartsMore}
+use Rattle.plain_engine.specs.Steps.{act_at, settled_act, read_of, NeedsTasks, IsNext, Reaches, here, onward, StopsAt, DoesAt, activations_of}
 use Rattle.plain_engine.specs.Steady.{IsSteady}
 use Rattle.plain_engine.specs.declared.end.TheConstants.{LIMIT}
-use Rattle.plain_engine.proofs.Placed.{IsAt, placed-at, fits, formed-state, moves, futures_after, placed-next}
+use Rattle.plain_engine.proofs.Placed.{placed-at, fits, formed-instr, moves, futures_after, placed-next}
 use Rattle.plain_engine.proofs.FutureFacts.{Met, IsGiven, met-renewed, met-given_up}
 
 pub met-of : (p : Program) (q : Place) (n : ℕ) (s : IsSteady p q n) → Met s.facts q.futures n
@@ -70,18 +66,18 @@ pub sound-instr : (p : Program) (q : Place) (kind : Kind) (state : State) (line 
 sound-instr p q kind state line valid e g l = (sound-state p q kind state valid e g).instrs q.at line.instr (instr-in state q.at line l)
 
 -- the facts behind a plain instruction are met by the futures behind it
-met-after : (p : Program) (kind : Kind) (state : State) (q next : Place) (f : Facts) (n numbers : ℕ) (instr : Instr) → act_at instr q ≡ Steps next → Way state q.at f
+met-after : (p : Program) (cs : Columns) (kind : Kind) (state : State) (q next : Place) (f : Facts) (n numbers : ℕ) (instr : Instr) → act_at cs instr q ≡ Steps next → Way state q.at f
     → IsSoundInstr p kind state q.at instr → NamesIn numbers (length q.futures) instr → Met f q.futures n → Met (after instr f) (futures_after instr q.futures) n
-met-after p kind state q next f n numbers (Set a b) e w s r m = m
-met-after p kind state q next f n numbers (Math a b c d) e w s r m = m
-met-after p kind state q next f n numbers (If a b c d) e w s r m = m
-met-after p kind state q next f n numbers (Goto a) e w s r m = m
-met-after p kind state q next f n numbers (Label a) e w s r m = m
-met-after p kind state q next f n numbers (Cell a b c) e w s r m = m
-met-after p kind state q next f n numbers (Rows a b) e w s r m = m
-met-after p kind state q next f n numbers (Spawn a b c d g h) e w s r m = cc
-met-after p kind state q next f n numbers (All a b c d) e w s r m = cc
-met-after p kind state q next f n numbers (Copy to source) e w s r m = by (nat_eq to source) refl where
+met-after p cs kind state q next f n numbers (Set a b) e w s r m = m
+met-after p cs kind state q next f n numbers (Math a b c d) e w s r m = m
+met-after p cs kind state q next f n numbers (If a b c d) e w s r m = m
+met-after p cs kind state q next f n numbers (Goto a) e w s r m = m
+met-after p cs kind state q next f n numbers (Label a) e w s r m = m
+met-after p cs kind state q next f n numbers (Cell a b c) e w s r m = m
+met-after p cs kind state q next f n numbers (Rows a b) e w s r m = m
+met-after p cs kind state q next f n numbers (Spawn a b c d g h) e w s r m = cc
+met-after p cs kind state q next f n numbers (All a b c d) e w s r m = cc
+met-after p cs kind state q next f n numbers (Copy to source) e w s r m = by (nat_eq to source) refl where
   by : (b : Bool) → nat_eq to source ≡ b → Met (after (Copy to source) f) (futures_after (Copy to source) q.futures) n
   by true g = let same : slice_set q.futures to (future_at q.futures source) ≡ q.futures =
       ap (λ x. slice_set q.futures to (future_at q.futures x)) (sym (eqb-true to source g)) ∙ set-get_or q.futures to None in
@@ -89,10 +85,10 @@ met-after p kind state q next f n numbers (Copy to source) e w s r m = by (nat_e
   by false g = subst (λ h. Met h (futures_after (Copy to source) q.futures) n) (ap (λ b. cond b f (renewed to (has source f.settled) (members_of source f.members) f)) (sym g))
       (met-renewed f q.futures n to (has source f.settled) (members_of source f.members) (future_at q.futures source) m r.0
       (λ h. m.settled source h) (m.held source (s f w)) (λ x h v. m.members source x h v))
-met-after p kind state q next f n numbers (Drop x) e w s r m = met-given_up f q.futures n x m
-met-after p kind state q next f n numbers (Get a b) e w s r m = m
-met-after p kind state q next f n numbers (Again a b c) e w s r m = m
-met-after p kind state q next f n numbers (Done a) e w s r m = m
+met-after p cs kind state q next f n numbers (Drop x) e w s r m = met-given_up f q.futures n x m
+met-after p cs kind state q next f n numbers (Get a b) e w s r m = m
+met-after p cs kind state q next f n numbers (Again a b c) e w s r m = m
+met-after p cs kind state q next f n numbers (Done a) e w s r m = m
 
 jump-futures : (instr : Instr) (to : ℕ) (fs : List (Option Value)) → JumpsTo instr to → futures_after instr fs ≡ fs
 jump-futures (Set a b) to fs j = refl
@@ -110,11 +106,11 @@ jump-futures (Get a b) to fs j = refl
 jump-futures (Again a b c) to fs j = refl
 jump-futures (Done a) to fs j = refl
 
-steady-next : (p : Program) (q next : Place) (n : ℕ) → IsWellFormed p → IsValid p → IsPlaced p q → IsNext p q next → IsSteady p q n → IsSteady p next n
-steady-next p q next n formed valid placed x s =
+steady-next : (p : Program) (cs : Columns) (q next : Place) (n : ℕ) → IsWellFormed p → IsValid p → IsPlaced p q → IsNext p cs q next → IsSteady p q n → IsSteady p next n
+steady-next p cs q next n formed valid placed x s =
     let l = line-in p q s.kind s.state x.line s.is_kind s.is_state x.stands in
     let a = placed-at p q s.kind s.state placed s.is_kind s.is_state in
-    let m = moves x.line.instr q next x.goes in
+    let m = moves cs x.line.instr q next x.goes in
     let sound = sound-instr p q s.kind s.state x.line valid s.is_kind s.is_state l in
     let names = (fits p q s.kind s.state x.line formed a l).names in
     let k : slice_get p.kinds next.kind ≡ Some s.kind = ap (λ i. slice_get p.kinds i) m.kind ∙ s.is_kind in
@@ -123,35 +119,22 @@ steady-next p q next n formed valid placed x s =
       | inl g ↦ steady-of p next n s.kind s.state (after x.line.instr s.facts) k t
           (subst (λ i. Way s.state i (after x.line.instr s.facts)) (sym g.0) (goes_on x.line.instr s.way (instr-in s.state q.at x.line l) g.1))
           (subst (λ fs. Met (after x.line.instr s.facts) fs n) (sym m.futures)
-          (met-after p s.kind s.state q next s.facts n (length q.numbers) x.line.instr x.goes s.way sound names (met-of p q n s)))
+          (met-after p cs s.kind s.state q next s.facts n (length q.numbers) x.line.instr x.goes s.way sound names (met-of p q n s)))
       | inr j ↦ steady-of p next n s.kind s.state s.facts k t (jumps x.line.instr next.at s.way (instr-in s.state q.at x.line l) j)
           (subst (λ fs. Met s.facts fs n) (sym (m.futures ∙ jump-futures x.line.instr next.at q.futures j)) (met-of p q n s))
     ]
 
-placed-on : (p : Program) (q next : Place) → IsWellFormed p → IsPlaced p q → IsNext p q next → IsPlaced p next
-placed-on p q next formed placed x = placed-next p q next placed.kind placed.state x.line formed (placed-at p q placed.kind placed.state placed placed.is_kind placed.is_state)
+placed-on : (p : Program) (cs : Columns) (q next : Place) → IsWellFormed p → IsPlaced p q → IsNext p cs q next → IsPlaced p next
+placed-on p cs q next formed placed x = placed-next p cs q next placed.kind placed.state x.line formed (placed-at p q placed.kind placed.state placed placed.is_kind placed.is_state)
     (line-in p q placed.kind placed.state x.line placed.is_kind placed.is_state x.stands) x.goes
 
-reached : (p : Program) (q now : Place) (n : ℕ) → IsWellFormed p → IsValid p → IsPlaced p q → IsSteady p q n → Reaches p q now → IsPlaced p now × IsSteady p now n
-reached p q now n formed valid placed s here = (placed, s)
-reached p q now n formed valid placed s (onward {at = at} {next = next} r x) = let b = reached p q at n formed valid placed s r in
-    (placed-on p at next formed b.0 x, steady-next p at next n formed valid b.0 x b.1)
+reached : (p : Program) (cs : Columns) (q now : Place) (n : ℕ) → IsWellFormed p → IsValid p → IsPlaced p q → IsSteady p q n → Reaches p cs q now → IsPlaced p now × IsSteady p now n
+reached p cs q now n formed valid placed s here = (placed, s)
+reached p cs q now n formed valid placed s (onward {at = at} {next = next} r x) = let b = reached p cs q at n formed valid placed s r in
+    (placed-on p cs at next formed b.0 x, steady-next p cs at next n formed valid b.0 x b.1)
 
-pub steady-reached : (p : Program) (q now : Place) (n : ℕ) → IsWellFormed p → IsValid p → IsPlaced p q → IsSteady p q n → Reaches p q now → IsSteady p now n
-steady-reached p q now n formed valid placed s r = (reached p q now n formed valid placed s r).1
-
--- the first form has no aggregates
-pub first-kind : (p : Program) (k : ℕ) (kind : Kind) → IsFirst p → slice_get p.kinds k ≡ Some kind → is_first_kind p kind ≡ true
-first-kind p k kind first e = list_all-at (is_first_kind p) p.kinds k kind (both (list_all (is_first_kind p) p.kinds) (list_all (is_first_root p) p.roots) first).0 e
-
-first-state : (p : Program) (kind : Kind) (at : ℕ) (state : State) → is_first_kind p kind ≡ true → slice_get kind.states at ≡ Some state → is_first_state p kind state ≡ true
-first-state p kind at state h e = list_all-at (is_first_state p kind) kind.states at state (both _ (list_all (is_first_state p kind) kind.states) h).1 e
-
-allowed : (p : Program) (q : Place) (kind : Kind) (state : State) (line : Line) → IsWellFormed p → IsFirst p → IsAt p q kind state → slice_get state.code q.at ≡ Some line → allows p kind state q.at line.instr ≡ true
-allowed p q kind state line formed first a l =
-    let f = first-state p kind q.state state (first-kind p q.kind kind first a.is_kind) a.is_state in
-    let b = both (list_all (λ x. has x state.holds) state.settled) (allows_from p kind state 0 state.code) f in
-    allowed_at p kind state (record { formed = formed-state p q kind state formed a; settled_held = b.0; allowed = b.1 }) q.at line.instr (instr-in state q.at line l)
+pub steady-reached : (p : Program) (cs : Columns) (q now : Place) (n : ℕ) → IsWellFormed p → IsValid p → IsPlaced p q → IsSteady p q n → Reaches p cs q now → IsSteady p now n
+steady-reached p cs q now n formed valid placed s r = (reached p cs q now n formed valid placed s r).1
 
 math-alone : (v : Value) (to : ℕ) (q : Place) → ¬ NeedsTasks (settled_act (steps_with v (set_number q to)) q)
 math-alone (Number n) to q h = h
@@ -163,30 +146,29 @@ read-alone (Some (Number n)) to x q g h = h
 read-alone (Some (Trapped t)) to x q g h = h
 
 -- what needs other tasks starts an activation
-starts-instr : (p : Program) (kind : Kind) (state : State) (q : Place) (f : Facts) (n : ℕ) (instr : Instr) → allows p kind state q.at instr ≡ true → IsSoundInstr p kind state q.at instr
-    → Way state q.at f → Met f q.futures n → NeedsTasks (act_at instr q) → StartsMore (act_of no_columns instr q)
-starts-instr p kind state q f n (Set a b) o s w m h = h
-starts-instr p kind state q f n (Math op to left right) o s w m h = absurd (math-alone (computed op (operand q.numbers left) (operand q.numbers right)) to q h)
-starts-instr p kind state q f n (If a b c d) o s w m h = h
-starts-instr p kind state q f n (Goto a) o s w m h = h
-starts-instr p kind state q f n (Label a) o s w m h = h
-starts-instr p kind state q f n (Cell a b c) o s w m h = h
-starts-instr p kind state q f n (Rows a b) o s w m h = h
-starts-instr p kind state q f n (Spawn a b c d g i) o s w m h = tt
-starts-instr p kind state q f n (All a b c d) o s w m h = cc
-starts-instr p kind state q f n (Copy a b) o s w m h = h
-starts-instr p kind state q f n (Drop a) o s w m h = h
-starts-instr p kind state q f n (Get to x) o s w m h = absurd (read-alone (future_at q.futures x) to x q (m.settled x (s.1 f w)) h)
-starts-instr p kind state q f n (Again a b c) o s w m h = tt
-starts-instr p kind state q f n (Done a) o s w m h = h
+starts-instr : (p : Program) (cs : Columns) (kind : Kind) (state : State) (q : Place) (f : Facts) (n : ℕ) (instr : Instr) → IsFormedInstr p kind state q.at instr → IsSoundInstr p kind state q.at instr
+    → Way state q.at f → Met f q.futures n → NeedsTasks (act_at cs instr q) → 0 < activations_of (act_of cs instr q)
+starts-instr p cs kind state q f n (Set a b) o s w m h = absurd h
+starts-instr p cs kind state q f n (Math op to left right) o s w m h = absurd (math-alone (computed op (operand q.numbers left) (operand q.numbers right)) to q h)
+starts-instr p cs kind state q f n (If a b c d) o s w m h = absurd h
+starts-instr p cs kind state q f n (Goto a) o s w m h = absurd h
+starts-instr p cs kind state q f n (Label a) o s w m h = absurd h
+starts-instr p cs kind state q f n (Cell to column row) o s w m h = absurd (math-alone (cell_at cs column (operand q.numbers row)) to q h)
+starts-instr p cs kind state q f n (Rows a b) o s w m h = absurd h
+starts-instr p cs kind state q f n (Spawn a b c d g i) o s w m h = omega arith
+starts-instr p cs kind state q f n (All to members priority retry) o s w m h = o.1
+starts-instr p cs kind state q f n (Copy a b) o s w m h = absurd h
+starts-instr p cs kind state q f n (Drop a) o s w m h = absurd h
+starts-instr p cs kind state q f n (Get to x) o s w m h = absurd (read-alone (future_at q.futures x) to x q (m.settled x (s.1 f w)) h)
+starts-instr p cs kind state q f n (Again a b c) o s w m h = omega arith
+starts-instr p cs kind state q f n (Done a) o s w m h = absurd h
 
-pub starts-more : (p : Program) (q : Place) (n : ℕ) → IsWellFormed p → IsValid p → IsFirst p → IsPlaced p q → IsSteady p q n → (stop : StopsAt p q None)
-    → StartsMore (act_of no_columns stop.line.instr q)
-starts-more p q n formed valid first placed s stop =
+pub starts-more : (p : Program) (cs : Columns) (q : Place) (n : ℕ) → IsWellFormed p → IsValid p → IsPlaced p q → IsSteady p q n → (stop : StopsAt p cs q None)
+    → 0 < activations_of (act_of cs stop.line.instr q)
+starts-more p cs q n formed valid placed s stop =
     let l = line-in p q s.kind s.state stop.line s.is_kind s.is_state stop.stands in
-    starts-instr p s.kind s.state q s.facts n stop.line.instr
-    (allowed p q s.kind s.state stop.line formed first (placed-at p q s.kind s.state placed s.is_kind s.is_state) l)
+    starts-instr p cs s.kind s.state q s.facts n stop.line.instr (formed-instr p q s.kind s.state stop.line formed (placed-at p q s.kind s.state placed s.is_kind s.is_state) l)
     (sound-instr p q s.kind s.state stop.line valid s.is_kind s.is_state l) s.way (met-of p q n s) stop.stops
 
-pub does : (p : Program) (q : Place) (stop : StopsAt p q None) → DoesAt p q (act_of no_columns stop.line.instr q)
-does p q stop = record { line = stop.line; stands = stop.stands; ahead = stop.ahead; does = refl }
+pub does : (p : Program) (cs : Columns) (q : Place) (stop : StopsAt p cs q None) → DoesAt p cs q (act_of cs stop.line.instr q)
+does p cs q stop = record { line = stop.line; stands = stop.stands; ahead = stop.ahead; does = refl }

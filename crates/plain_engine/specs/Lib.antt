@@ -2,7 +2,9 @@ pub mod Place
 pub mod Steps
 pub mod RunEnd
 pub mod Carried
+pub mod RootEnds
 pub mod SoundEnd
+pub mod SoFar
 pub mod Steady
 pub mod Stack
 pub mod Example

@@ -1,7 +1,7 @@
 -- One step of a task on its own.
-use Rattle.std.specs.Prelude.{◌≡◌, ℕ, Option, Some, None, [], slice_get}
+use Rattle.std.specs.Prelude.{◌≡◌, ℕ, Option, Some, None, length, slice_get}
 use Rattle.task_syntax.specs.declared.value.Value.{Value}
-use Rattle.task_syntax.specs.Columns.{no_columns}
+use Rattle.task_syntax.specs.declared.columns.Columns.{Columns}
 use Rattle.task_syntax.specs.declared.instr.Instr.{Instr}
 use Rattle.task_meaning.specs.Meant.{future_at}
 use Rattle.task_syntax.specs.declared.instr.Line.{Line}
@@ -25,8 +25,8 @@ settled_act (Gathers to members) q = Gathers to members
 settled_act (Respawns target waits) q = Respawns target waits
 settled_act (Finishes v) q = Finishes v
 
-abbrev pub act_at : Instr → Place → Act Value
-act_at instr q = settled_act (act_of no_columns instr q) q
+abbrev pub act_at : Columns → Instr → Place → Act Value
+act_at c instr q = settled_act (act_of c instr q) q
 
 -- the act needs other tasks
 abbrev pub NeedsTasks : Act Value → Type 0
@@ -46,33 +46,36 @@ IsStop act (Some v) = act ≡ Finishes v
 IsStop act None = NeedsTasks act
 
 -- the task goes on from the first place to the second
-pub record IsNext (p : Program) (q next : Place) : Type 0 where
+pub record IsNext (p : Program) (c : Columns) (q next : Place) : Type 0 where
   pub line : Line
   pub stands : slice_get (code_at p q.kind q.state) q.at ≡ Some line
   pub ahead : JumpsAhead q.at line.instr
-  pub goes : act_at line.instr q ≡ Steps next
+  pub goes : act_at c line.instr q ≡ Steps next
 
 -- on its own the task comes from the first place to the second
-pub data Reaches (p : Program) (from : Place) : Place → Type 0 where
-  here : Reaches p from from
-  onward : {at next : Place} → Reaches p from at → IsNext p at next → Reaches p from next
+pub data Reaches (p : Program) (c : Columns) (from : Place) : Place → Type 0 where
+  here : Reaches p c from from
+  onward : {at next : Place} → Reaches p c from at → IsNext p c at next → Reaches p c from next
 
 -- the task stands where it ends with a value, or where it needs other tasks
-pub record StopsAt (p : Program) (q : Place) (stop : Option Value) : Type 0 where
+pub record StopsAt (p : Program) (c : Columns) (q : Place) (stop : Option Value) : Type 0 where
   pub line : Line
   pub stands : slice_get (code_at p q.kind q.state) q.at ≡ Some line
   pub ahead : JumpsAhead q.at line.instr
-  pub stops : IsStop (act_at line.instr q) stop
+  pub stops : IsStop (act_at c line.instr q) stop
 
 -- the task stands at a line that does this
-pub record DoesAt (p : Program) (q : Place) (act : Act Value) : Type 0 where
+pub record DoesAt (p : Program) (c : Columns) (q : Place) (act : Act Value) : Type 0 where
   pub line : Line
   pub stands : slice_get (code_at p q.kind q.state) q.at ≡ Some line
   pub ahead : JumpsAhead q.at line.instr
-  pub does : act_of no_columns line.instr q ≡ act
+  pub does : act_of c line.instr q ≡ act
 
--- the act starts an activation
-abbrev pub StartsMore : Act Value → Type 0
-StartsMore (Calls to call waits) = Unit {0}
-StartsMore (Respawns target waits) = Unit {0}
-StartsMore _ = ⊥
+-- how many activations the act starts: an aggregate has one for each member
+abbrev pub activations_of : Act Value → ℕ
+activations_of (Steps next) = 0
+activations_of (Calls to call waits) = 1
+activations_of (Gathers to members) = length members
+activations_of (Reads to x) = 0
+activations_of (Respawns target waits) = 1
+activations_of (Finishes v) = 0

@@ -5,7 +5,8 @@ ghost use Rattle.plain_engine.specs.Place.{IsOperandIn};
 
 use task_syntax::{MathOp, Operand, Relation, Trap, Value};
 
-fn number_or(trap: Trap, number: Option<u64>) -> Value
+/// The number, where there is one, else the trap.
+pub fn number_or(trap: Trap, number: Option<u64>) -> Value
     ensures { result ≡ number_or_trap trap number }
 {
     match number {

@@ -1,13 +1,12 @@
-ghost use Rattle.std.specs.Prelude.{◌≡◌, ◌<◌, ◌≤◌, IfOk, None, length, map};
+ghost use Rattle.std.specs.Prelude.{◌≡◌, ◌+◌, ◌<◌, ◌≤◌, IfOk, None, length, map, min};
 ghost use Rattle.task_syntax.specs.Form.{IsWellFormed};
 ghost use Rattle.task_syntax.specs.Valid.{IsValid};
-ghost use Rattle.first_form.specs.First.{IsFirst};
 ghost use Rattle.task_syntax.specs.Places.{Each};
 ghost use Rattle.task_meaning.specs.Frame.{number_passed, future_passed};
 ghost use Rattle.plain_engine.specs.Place.{IsArgumentIn, IsPlaced};
 ghost use Rattle.plain_engine.specs.Steps.{StopsAt};
 ghost use Rattle.plain_engine.specs.Steady.{IsSteady};
-ghost use Rattle.plain_engine.specs.Stack.{IsEvent};
+ghost use Rattle.plain_engine.specs.Stack.{IsEvent, gathered_end};
 
 use crate::advance::advance;
 use crate::arithmetic::read;
@@ -16,7 +15,7 @@ use crate::lookup::{kind_at, line_at, state_at};
 use crate::running::Running;
 use crate::start::start;
 use std::alloc::{AllocError, Global};
-use task_syntax::{Argument, Instr, Program, Value};
+use task_syntax::{Argument, Columns, Instr, Program, Value};
 
 /// What becomes of a task.
 #[derive(Debug, Drop)]
@@ -27,6 +26,8 @@ pub enum Event {
         to: u16,
         callee: Running,
     },
+    /// It is behind an aggregate.
+    Gathers(Running),
     /// It is at the start of a further state.
     Respawns(Running),
     /// It ended with a value, or was cut.
@@ -83,21 +84,39 @@ fn futures_passed(
     Ok(futures)
 }
 
-/// Begins the activation that a task asks for where it stands.
+/// Takes an activation for each member of an aggregate, and gives what the aggregate is worth. Where the limit is met on
+/// the way it is cut.
+fn gather(accepted: &mut u32, members: usize) -> Option<Value>
+    requires few { members ≤ 8 }
+    requires within { accepted.old ≤ LIMIT }
+    ensures worth { result ≡ gathered_end accepted.old members }
+    ensures counted { accepted.new ≡ min (accepted.old + members) LIMIT }
+{
+    let wanted = *accepted + members as u32;
+    if wanted <= LIMIT {
+        *accepted = wanted;
+        Some(Value::Number(0))
+    } else {
+        *accepted = LIMIT;
+        None
+    }
+}
+
+/// Begins what a task asks for where it stands, which takes one activation at least.
 fn begin(
     alloc: Global,
     program: &Program,
+    columns: &Columns,
     top: Running,
     accepted: &mut u32,
 ) -> Result<Event, AllocError>
     requires formed { IsWellFormed program.now }
     requires valid { IsValid program.now }
-    requires first { IsFirst program.now }
     requires placed { IsPlaced program.now top }
     requires steady { IsSteady program.now top accepted.old }
     requires below { accepted.old < LIMIT }
-    requires stops { StopsAt program.now top None }
-    ensures { IfOk result (IsEvent program.now top accepted.old accepted.new) }
+    requires stops { StopsAt program.now columns.now top None }
+    ensures { IfOk result (IsEvent program.now columns.now top accepted.old accepted.new) }
 {
     let shape = kind_at(program, top.kind());
     let state = state_at(shape, top.state());
@@ -119,6 +138,11 @@ fn begin(
                 callee,
             })
         }
+        Instr::All { to, members, .. } => {
+            let mut next = top;
+            next.set_future(*to, gather(accepted, members.len()));
+            Ok(Event::Gathers(next))
+        }
         Instr::Again { target, .. } => {
             let mut next = top;
             next.enter(*target, state_at(shape, *target).holds.as_slice());
@@ -133,23 +157,23 @@ fn begin(
 pub fn next_event(
     alloc: Global,
     program: &Program,
+    columns: &Columns,
     top: Running,
     accepted: &mut u32,
 ) -> Result<Event, AllocError>
     requires formed { IsWellFormed program.now }
     requires valid { IsValid program.now }
-    requires first { IsFirst program.now }
     requires placed { IsPlaced program.now top }
     requires steady { IsSteady program.now top accepted.old }
     requires within { accepted.old ≤ LIMIT }
-    ensures { IfOk result (IsEvent program.now top accepted.old accepted.new) }
+    ensures { IfOk result (IsEvent program.now columns.now top accepted.old accepted.new) }
 {
     let mut top = top;
-    if let Some(value) = advance(program, &mut top) {
+    if let Some(value) = advance(program, columns, &mut top) {
         return Ok(Event::Ends(Some(value)));
     }
     if *accepted == LIMIT {
         return Ok(Event::Ends(None));
     }
-    begin(alloc, program, top, accepted)
+    begin(alloc, program, columns, top, accepted)
 }

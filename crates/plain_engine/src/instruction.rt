@@ -1,12 +1,13 @@
-ghost use Rattle.std.specs.Prelude.{◌≡◌, ◌<◌, ◌+◌, length};
-ghost use Rattle.task_meaning.specs.Acts.{steps_with};
-ghost use Rattle.task_meaning.specs.Frame.{set_number as with_number};
+ghost use Rattle.std.specs.Prelude.{◌≡◌, ◌<◌, ◌+◌, cond, length};
+ghost use Rattle.task_meaning.specs.Meant.{future_at};
+ghost use Rattle.task_meaning.specs.Acts.{Steps, steps_with};
+ghost use Rattle.task_meaning.specs.Frame.{go_on as at_next_line, jump as at_line, set_future as with_future, set_number as with_number};
 ghost use Rattle.plain_engine.specs.Place.{Fits};
-ghost use Rattle.plain_engine.specs.Steps.{act_at, IsStep};
+ghost use Rattle.plain_engine.specs.Steps.{act_at, IsStep, read_of};
 
-use crate::arithmetic::{compare, compute, read};
+use crate::arithmetic::{compare, compute, number_or, read};
 use crate::running::Running;
-use task_syntax::{Instr, Trap, Value};
+use task_syntax::{Columns, Instr, Trap, Value};
 
 /// What comes of one instruction.
 #[derive(Debug, Clone, Copy, PartialEq, Eq)]
@@ -19,7 +20,8 @@ pub enum Step {
     Stands,
 }
 
-fn moved(running: &mut Running, to: u16, value: Value) -> Step
+/// Puts a number into a variable and goes on. A trap ends the task.
+fn put(running: &mut Running, to: u16, value: Value) -> Step
     requires line { running.old.at + 1 < 65536 }
     requires variable { to < length running.old.numbers }
     ensures { IsStep (steps_with value (with_number running.old to)) running.old result running.new }
@@ -33,16 +35,51 @@ fn moved(running: &mut Running, to: u16, value: Value) -> Step
     }
 }
 
-/// Carries out one instruction of the task, where it needs no other task. No column has a row.
-pub fn carry_out(instr: &Instr, running: &mut Running) -> Step
+/// Puts the number of a future into a variable, where the future has a value.
+fn get(running: &mut Running, to: u16, future: u16) -> Step
+    requires line { running.old.at + 1 < 65536 }
+    requires variable { to < length running.old.numbers }
+    requires future { future < length running.old.futures }
+    ensures { IsStep (read_of (future_at running.old.futures future) to future running.old) running.old result running.new }
+{
+    match running.future(future) {
+        Some(value) => put(running, to, value),
+        None => Step::Stands,
+    }
+}
+
+/// Jumps to a line where a test holds, and else goes on.
+fn jump_if(running: &mut Running, holds: bool, target: u16) -> Step
+    requires { running.old.at + 1 < 65536 }
+    ensures { IsStep (Steps (cond holds (at_line running.old target) (at_next_line running.old))) running.old result running.new }
+{
+    if holds {
+        running.jump(target);
+    } else {
+        running.go_on();
+    }
+    Step::Moved
+}
+
+/// Names a future by a variable and goes on.
+fn refer(running: &mut Running, to: u16, future: Option<Value>) -> Step
+    requires line { running.old.at + 1 < 65536 }
+    requires variable { to < length running.old.futures }
+    ensures { IsStep (Steps (with_future running.old to future)) running.old result running.new }
+{
+    running.set_future(to, future);
+    Step::Moved
+}
+
+/// Carries out one instruction of the task, where it needs no other task.
+pub fn carry_out(instr: &Instr, columns: &Columns, running: &mut Running) -> Step
     requires { Fits running.old instr.now }
-    ensures { IsStep (act_at instr.now running.old) running.old result running.new }
+    ensures { IsStep (act_at columns.now instr.now running.old) running.old result running.new }
 {
     match instr {
         Instr::Set { to, value } => {
             let number = read(running.numbers(), *value);
-            running.set_number(*to, number);
-            Step::Moved
+            put(running, *to, Value::Number(number))
         }
         Instr::Math {
             op,
@@ -55,7 +92,7 @@ pub fn carry_out(instr: &Instr, running: &mut Running) -> Step
                 read(running.numbers(), *left),
                 read(running.numbers(), *right),
             );
-            moved(running, *to, value)
+            put(running, *to, value)
         }
         Instr::If {
             relation,
@@ -63,43 +100,26 @@ pub fn carry_out(instr: &Instr, running: &mut Running) -> Step
             right,
             target,
         } => {
-            if compare(
+            let holds = compare(
                 *relation,
                 read(running.numbers(), *left),
                 read(running.numbers(), *right),
-            ) {
-                running.jump(*target);
-            } else {
-                running.go_on();
-            }
-            Step::Moved
+            );
+            jump_if(running, holds, *target)
         }
-        Instr::Goto { target } => {
-            running.jump(*target);
-            Step::Moved
+        Instr::Goto { target } => jump_if(running, true, *target),
+        Instr::Label { .. } => jump_if(running, false, 0),
+        Instr::Cell { to, column, row } => {
+            let cell = columns.cell(column, read(running.numbers(), *row));
+            put(running, *to, number_or(Trap::NoRow, cell))
         }
-        Instr::Label { .. } => {
-            running.go_on();
-            Step::Moved
-        }
-        Instr::Cell { .. } => Step::Ended(Value::Trapped(Trap::NoRow)),
-        Instr::Rows { to, .. } => {
-            running.set_number(*to, 0);
-            Step::Moved
-        }
+        Instr::Rows { to, column } => put(running, *to, Value::Number(columns.rows(column))),
         Instr::Copy { to, of } => {
             let future = running.future(*of);
-            running.set_future(*to, future);
-            Step::Moved
+            refer(running, *to, future)
         }
-        Instr::Drop { future } => {
-            running.set_future(*future, None);
-            Step::Moved
-        }
-        Instr::Get { to, future } => match running.future(*future) {
-            Some(value) => moved(running, *to, value),
-            None => Step::Stands,
-        },
+        Instr::Drop { future } => refer(running, *future, None),
+        Instr::Get { to, future } => get(running, *to, *future),
         Instr::Done { value } => Step::Ended(Value::Number(read(running.numbers(), *value))),
         Instr::Spawn { .. } | Instr::All { .. } | Instr::Again { .. } => Step::Stands,
     }

@@ -1,7 +1,6 @@
 ghost use Rattle.std.specs.Prelude.{◌≡◌, ◌≤◌, IfOk, [], ◌∷◌};
 ghost use Rattle.task_syntax.specs.Form.{IsWellFormed};
 ghost use Rattle.task_syntax.specs.Valid.{IsValid};
-ghost use Rattle.first_form.specs.First.{IsFirst};
 ghost use Rattle.plain_engine.specs.Stack.{FitsFirst, IsResumed, IsStanding, IsTurn};
 
 use crate::end::LIMIT;
@@ -9,7 +8,7 @@ use crate::event::{Event, next_event};
 use crate::running::Running;
 use crate::stack::{Callers, Stack, Waiting};
 use std::alloc::{AllocError, Global};
-use task_syntax::{Program, Value};
+use task_syntax::{Columns, Program, Value};
 
 /// What comes of a turn.
 #[derive(Debug, Drop)]
@@ -41,18 +40,18 @@ fn resume(callers: Callers, end: Option<Value>) -> Turn
 pub fn take_turn(
     alloc: Global,
     program: &Program,
+    columns: &Columns,
     stack: Stack,
     accepted: &mut u32,
 ) -> Result<Turn, AllocError>
     requires formed { IsWellFormed program.now }
     requires valid { IsValid program.now }
-    requires first { IsFirst program.now }
-    requires standing { IsStanding program.now stack accepted.old }
+    requires standing { IsStanding program.now columns.now stack accepted.old }
     requires within { accepted.old ≤ LIMIT }
-    ensures { IfOk result (λ turn. IsTurn program.now stack accepted.old turn accepted.new) }
+    ensures { IfOk result (λ turn. IsTurn program.now columns.now stack accepted.old turn accepted.new) }
 {
     let Stack { top, mut callers } = stack;
-    match next_event(alloc, program, top, accepted)? {
+    match next_event(alloc, program, columns, top, accepted)? {
         Event::Calls { caller, to, callee } => {
             callers.push(Waiting {
                 running: caller,
@@ -63,6 +62,7 @@ pub fn take_turn(
                 callers,
             }))
         }
+        Event::Gathers(next) => Ok(Turn::On(Stack { top: next, callers })),
         Event::Respawns(next) => Ok(Turn::On(Stack { top: next, callers })),
         Event::Ends(end) => Ok(resume(callers, end)),
     }

@@ -37,8 +37,8 @@ lines-smaller c =
     let a = same-at c.args.program.now c.args.running.now c.lines.running c.kind.result c.state.result c.kind_at.result.now c.state_at-state.result.now
     c.lines.invariant.placed c.lines.invariant.kind c.lines.invariant.state c.kind.ensures c.state.ensures c.kind_at.ensures c.state_at-state.ensures in
     let e = ap (λ n. slice_get c.state_at-state.result.now.code n) (sym c.at.ensures) ∙ c.line_at-line.ensures in
-    let n = is-next c.args.program.now c.lines.running c.carry_out.new.running c.kind_at.result.now c.state_at-state.result.now c.line_at-line.result.now c.requires.formed a e c.in-Moved.ensures in
-    let f = next-ahead c.args.program.now c.lines.running c.carry_out.new.running n in
+    let n = is-next c.args.program.now c.args.columns.now c.lines.running c.carry_out.new.running c.kind_at.result.now c.state_at-state.result.now c.line_at-line.result.now c.requires.formed a e c.in-Moved.ensures in
+    let f = next-ahead c.args.program.now c.args.columns.now c.lines.running c.carry_out.new.running n in
     let w = slice_get_within c.state_at-state.result.now.code c.lines.running.at c.line_at-line.result.now e in
     omega arith
 
@@ -47,10 +47,10 @@ lines-preserved c =
     let a = same-at c.args.program.now c.args.running.now c.lines.running c.kind.result c.state.result c.kind_at.result.now c.state_at-state.result.now
     c.lines.invariant.placed c.lines.invariant.kind c.lines.invariant.state c.kind.ensures c.state.ensures c.kind_at.ensures c.state_at-state.ensures in
     let e = ap (λ n. slice_get c.state_at-state.result.now.code n) (sym c.at.ensures) ∙ c.line_at-line.ensures in
-    let n = is-next c.args.program.now c.lines.running c.carry_out.new.running c.kind_at.result.now c.state_at-state.result.now c.line_at-line.result.now c.requires.formed a e c.in-Moved.ensures in
-    let k = next-kind c.args.program.now c.lines.running c.carry_out.new.running n in
+    let n = is-next c.args.program.now c.args.columns.now c.lines.running c.carry_out.new.running c.kind_at.result.now c.state_at-state.result.now c.line_at-line.result.now c.requires.formed a e c.in-Moved.ensures in
+    let k = next-kind c.args.program.now c.args.columns.now c.lines.running c.carry_out.new.running n in
     record {
-      placed = placed-next c.args.program.now c.lines.running c.carry_out.new.running c.kind_at.result.now c.state_at-state.result.now c.line_at-line.result.now c.requires.formed a e c.in-Moved.ensures;
+      placed = placed-next c.args.program.now c.args.columns.now c.lines.running c.carry_out.new.running c.kind_at.result.now c.state_at-state.result.now c.line_at-line.result.now c.requires.formed a e c.in-Moved.ensures;
       reaches = onward c.lines.invariant.reaches n;
       kind = k.0 ∙ c.lines.invariant.kind;
       state = k.1 ∙ c.lines.invariant.state;

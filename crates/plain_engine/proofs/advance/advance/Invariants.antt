@@ -6,7 +6,7 @@ use Rattle.plain_engine.proofs.advance.advance.Given as goal
 abbrev pub invariant-lines : goal.invariant-lines
 invariant-lines l = record {
   placed : IsPlaced l.program l.running;
-  reaches : Reaches l.program l.initial.running l.running;
+  reaches : Reaches l.program l.columns l.initial.running l.running;
   kind : l.running.kind ≡ l.initial.running.kind;
   state : l.running.state ≡ l.initial.running.state;
 }

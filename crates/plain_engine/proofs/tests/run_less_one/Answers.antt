@@ -1,4 +1,4 @@
-use Rattle.std.proofs.Common.{refl, sym, ◌∙◌, subst}
+use Rattle.std.proofs.Common.{refl, sym, subst}
 use Rattle.task_syntax.specs.Form.{IsWellFormed}
 use Rattle.first_form.specs.First.{IsFirst}
 use Rattle.first_form.proofs.FirstForm.{IsFirst-valid}
@@ -12,6 +12,3 @@ seal-requires-clause-formed c = let P : Program → Type 0 = IsWellFormed in sub
 pub seal-requires-clause-valid : goal.seal-requires-clause-valid
 seal-requires-clause-valid c = let P : Program → Type 0 = IsFirst in
     IsFirst-valid c.in_ok-program.program (seal-requires-clause-formed c) (subst P (sym c.in_ok-program.ensures) refl)
-
-pub first-requires : goal.first-requires
-first-requires c = let P : Program → Type 0 = IsFirst in subst P (sym (c.seal.ensures ∙ c.in_ok-program.ensures)) refl
