@@ -1,6 +1,7 @@
 -- The roots of a program, one after another.
-use Rattle.std.proofs.Common.{◌≡◌, ℕ, zero, suc, ◌+◌, ◌<◌, ◌≤◌, Option, Some, None, List, [], ◌∷◌, ◌++◌, map, take, length, slice_get, IfSome, refl, sym, ◌∙◌, ap, subst, ◌⊎◌, inl, inr, arith, length-append}
-use Rattle.std.proofs.lemmas.List.{take-take}
+use Rattle.std.proofs.Common.{◌≡◌, ℕ, zero, suc, ◌+◌, ◌<◌, ◌≤◌, min, Option, Some, None, List, [], ◌∷◌, ◌++◌, map, take, length, slice_get, IfSome, refl, sym, ◌∙◌, ap, subst, ◌⊎◌, inl, inr, arith, length-append}
+use Rattle.std.proofs.lemmas.List.{take-append-le, take-take}
+use Rattle.std.proofs.Math.Seq.{take-length}
 use Rattle.std.proofs.lemmas.Option.{slice_get_within}
 use Rattle.task_syntax.specs.Places.{Each}
 use Rattle.task_syntax.specs.Form.{IsWellFormed, IsFormedRootArgument}
@@ -55,7 +56,8 @@ cut-later : (p : Program) (cs : Columns) (ends : List RootEnd) (end : RootEnd) (
     → IsCutFrom p cs (so_far ends accepted) at from → IsCutFrom p cs (ended ends end later) at from
 cut-later p cs ends end accepted later at Host h l c = c
 cut-later p cs ends end accepted later at (Root r) h l c = (c.0, (c.1.0, get-before ends end r (omega (arith, c.0, l)) ∙ c.1.1))
-cut-later p cs ends end accepted later at (Task t) h l c = (c.0, omega (arith, c.1, h), c.2)
+cut-later p cs ends end accepted later at (Task t) h l c =
+    (c.0, c.1, subst (λ xs. Each xs IsValue) (sym (take-append-le at ends (end ∷ []) (omega (arith, l)))) c.2, c.3)
 
 end-later : (p : Program) (cs : Columns) (ends : List RootEnd) (end x : RootEnd) (accepted later at : ℕ) → accepted ≤ later → later ≤ LIMIT → at < length ends
     → IsSoundRootEnd p cs (so_far ends accepted) at x → IsSoundRootEnd p cs (ended ends end later) at x
@@ -72,7 +74,7 @@ named-later p ends end x at formed l n root e = n root e ∙ sym (first-stays en
 
 -- the roots counted together, behind one more
 abbrev pub IsCountedNow : Program → Columns → ℕ → ℕ → Type 0
-IsCountedNow p cs many accepted = OfFirst p cs many (λ activations. (accepted ≡ activations) ⊎ (LIMIT < activations))
+IsCountedNow p cs many accepted = OfFirst p cs many (λ activations. accepted ≡ min activations LIMIT)
 
 -- one root more
 pub sound-more : (p : Program) (cs : Columns) (ends : List RootEnd) (end : RootEnd) (before accepted : ℕ) (root : RootLine) → IsWellFormed p → slice_get p.roots (length ends) ≡ Some root
@@ -96,8 +98,8 @@ sound-more p cs ends end before accepted root formed e s rises within sound name
   below = below;
 }
 
-past-counted : (p : Program) (cs : Columns) (at accepted : ℕ) → IsPastLimit p cs at → IsCountedNow p cs (at + 1) accepted
-past-counted p cs at accepted past n k e = inr (past n k e)
+past-counted : (p : Program) (cs : Columns) (at accepted : ℕ) → accepted ≡ LIMIT → IsPastLimit p cs at → IsCountedNow p cs (at + 1) accepted
+past-counted p cs at accepted met past n k e = let l = past n k e in omega (arith, met, l)
 
 -- a root that goes past the limit takes those behind it past it
 past-on : (p : Program) (cs : Columns) (earlier at : ℕ) → earlier < at → IsPastLimit p cs earlier → IsPastLimit p cs at
@@ -121,7 +123,7 @@ passed-on p cs ends accepted j tag root formed e s found =
         let past = past-on p cs j (length ends) f.earlier sound.1 in
         sound-more p cs ends (Cut Limit (Root j)) accepted accepted root formed e s (omega arith) s.within
         (sound.0, past, (f.earlier, (f.from, get-before ends (Cut Limit (Root j)) j f.earlier ∙ f.end)))
-        (sym found) (past-counted p cs (length ends) accepted past) (inr sound.0)
+        (sym found) (past-counted p cs (length ends) accepted sound.0 past) (inr sound.0)
 
 pub none-found : (ends : List RootEnd) (root : RootLine) (o : Option (ℕ × CutTag)) → o ≡ first_without_task ends (roots_named root) → ((x : ℕ × CutTag) → ¬ (o ≡ Some x))
     → first_without_task ends (roots_named root) ≡ None
@@ -138,12 +140,12 @@ one-at_least p cs n earlier root k e =
 pub refused : (p : Program) (cs : Columns) (ends : List RootEnd) (accepted : ℕ) (root : RootLine) → IsWellFormed p → slice_get p.roots (length ends) ≡ Some root
     → IsSoundSoFar p cs (so_far ends accepted) → first_without_task ends (roots_named root) ≡ None → accepted ≡ LIMIT → IsSoundSoFar p cs (ended ends (Cut Limit Host) accepted)
 refused p cs ends accepted root formed e s none met =
-    let up : OfFirst p cs (length ends) (λ activations. LIMIT ≤ activations) = λ n k h. elim (s.counted n k h) [ inl g ↦ omega (arith, g, met) | inr g ↦ omega (arith, g) ] in
+    let up : OfFirst p cs (length ends) (λ activations. LIMIT ≤ activations) = λ n k h. let g = s.counted n k h in omega (arith, g, met) in
     let past : IsPastLimit p cs (length ends) = λ n k h.
     let a = first-more p cs n (length ends) root k e h in
     let least = one-at_least p cs n (values_of (take (length ends) (mean_roots p cs n))) root a.second a.is_second in
     let l = up n a.first a.is_first in omega (arith, least, l, a.activations) in
-    sound-more p cs ends (Cut Limit Host) accepted accepted root formed e s (omega arith) s.within (met, past, up) (sym none) (past-counted p cs (length ends) accepted past) (inr met)
+    sound-more p cs ends (Cut Limit Host) accepted accepted root formed e s (omega arith) s.within (met, past, up) (sym none) (past-counted p cs (length ends) accepted met past) (inr met)
 
 -- below the limit the ends are values
 pub known : (p : Program) (cs : Columns) (ends : List RootEnd) (accepted : ℕ) → accepted < LIMIT → IsSoundSoFar p cs (so_far ends accepted) → AreKnown p cs ends
@@ -212,34 +214,38 @@ ran p cs ends before accepted value root formed e s none below carried = by valu
     k : AreKnown p cs ends
     k = known p cs ends before below s
 
-    counts : (P : ℕ → Type 0) → ((more activations : ℕ) → (Q : Counts) → CallCounts p cs (root_call (values_at_ends ends) root) Q → (before ≡ more) ⊎ (LIMIT < more) → activations ≡ more + Q.activations → P activations)
+    met : OfFirst p cs (length ends) (λ activations. before ≡ activations)
+    met n a f = let g = s.counted n a f in omega (arith, g, below)
+
+    -- the roots up to this one count what was accepted before, and what its call counts
+    up_to : (P : ℕ → Type 0) → ((activations : ℕ) (q : Counts) → CallCounts p cs (root_call (values_at_ends ends) root) q → activations ≡ before + q.activations → P activations)
         → OfFirst p cs (length ends + 1) P
-    counts P h n c f =
+    up_to P h n c f =
         let a = first-more p cs n (length ends) root c e f in
-        h a.first.activations c.activations a.second (root-counts p cs n ends root a.first a.second e k a.is_first a.is_second) (s.counted n a.first a.is_first) a.activations
+        let g = met n a.first a.is_first in
+        h c.activations a.second (root-counts p cs n ends root a.first a.second e k a.is_first a.is_second) (omega (arith, g, a.activations))
 
     by : (o : Option Value) → IsCarried p cs (entry p (root_call (values_at_ends ends) root)) (before + 1) accepted o → IsSoundSoFar p cs (ended ends (end_of o (before + 1)) accepted)
     by (Some v) c =
         sound-more p cs ends (Ended v) before accepted root formed e s (omega (arith, c.rises)) c.within
         (root-gives p cs ends root v formed e k (c.ends.0.0, c.ends.0.1)) (sym none)
-        (counts (λ activations. (accepted ≡ activations) ⊎ (LIMIT < activations)) (λ more activations q g m t.
+        (up_to (λ activations. accepted ≡ min activations LIMIT) (λ activations q g t.
         let (less, f, u) = counted-one p cs (root_call (values_at_ends ends) root) q g in
-        elim m [
-          | inl x ↦ elim (c.ends.1 less (g.0, f)) [ inl y ↦ inl (omega (arith, t, u, x, y)) | inr y ↦ inr (omega (arith, t, u, x, y)) ]
-          | inr x ↦ inr (omega (arith, t, x))
-        ]))
+        let y = c.ends.1 less (g.0, f) in
+        omega (arith, t, u, y)))
         (inl (values-more ends v k.values))
       where
         values-more : (xs : List RootEnd) (v : Value) → Each xs IsValue → Each (xs ++ Ended v ∷ []) IsValue
         values-more xs v h at x f = elim (get-snoc xs (Ended v) x at f) [ inl g ↦ h at x g | inr g ↦ subst IsValue g.1 tt ]
     by None c =
-        let past : IsPastLimit p cs (length ends) = counts (λ activations. LIMIT < activations) (λ more activations q g m t.
+        let past : IsPastLimit p cs (length ends) = up_to (λ activations. LIMIT < activations) (λ activations q g t.
         let (less, f, u) = counted-one p cs (root_call (values_at_ends ends) root) q g in
         let y = c.ends.1 less (g.0, f) in
-        elim m [ inl x ↦ omega (arith, t, u, x, y) | inr x ↦ omega (arith, t, x) ]) in
+        omega (arith, t, u, y)) in
         sound-more p cs ends (Cut Limit (Task (before + 1))) before accepted root formed e s (omega (arith, c.rises)) c.within
-        (c.ends.0, past, (omega arith, c.rises, λ n a f w. elim (s.counted n a f) [ inl x ↦ omega (arith, x) | inr x ↦ absurd (omega (arith, x, w)) ]))
-        (sym none) (past-counted p cs (length ends) accepted past) (inr c.ends.0)
+        (c.ends.0, past, (omega arith, omega (arith, below), subst (λ xs. Each xs IsValue) (sym (take-append-le (length ends) ends (Cut Limit (Task (before + 1)) ∷ []) (omega arith) ∙ take-length ends)) k.values,
+        λ n a f. let g = met n a f in omega (arith, g)))
+        (sym none) (past-counted p cs (length ends) accepted c.ends.0 past) (inr c.ends.0)
 
 passed-at : (fs : List (Option Value)) (arguments : List RootArgument) (x : ℕ) (a : RootArgument) → slice_get arguments x ≡ Some a → future_at (map (root_future fs) arguments) x ≡ root_future fs a
 passed-at fs [] x a e = cc
@@ -273,33 +279,26 @@ sound-none p cs = record {
   within = omega arith;
   roots = λ i end e. cc;
   named = λ i end e. cc;
-  counted = λ n k e. let s : 0 ≡ k.activations = ap (λ (o : Counts). o.activations) (some-same (Some (record { tasks = 0; activations = 0 })) (record { tasks = 0; activations = 0 }) k refl e) in inl s;
+  counted = λ n k e. let s : 0 ≡ k.activations = ap (λ (o : Counts). o.activations) (some-same (Some (record { tasks = 0; activations = 0 })) (record { tasks = 0; activations = 0 }) k refl e) in omega (arith, s);
   below = inl (λ i end e. cc);
 }
 
-take-all : {A : Type 0} (xs : List A) (n : ℕ) → n ≡ length xs → take n xs ≡ xs
-take-all [] zero e = refl
-take-all [] (suc n) e = refl
-take-all (x ∷ xs) zero e = absurd (omega (arith, e))
-take-all (x ∷ xs) (suc n) e = ap (λ ys. x ∷ ys) (take-all xs n (omega (arith, e)))
-
-no-cut : (p : Program) (cs : Columns) (e : RunEnd) (at n : ℕ) (k : Counts) (end : RootEnd) → roots_counts p cs n ≡ Some k → k.activations ≤ LIMIT → IsSoundRootEnd p cs e at end → IsValue end
-no-cut p cs e at n k (Ended v) f h s = tt
-no-cut p cs e at n k (Cut Null from) f h s = s
-no-cut p cs e at n k (Cut Limit from) f h s = let (c, g, l) = first-fewer (mean_roots p cs n) (at + 1) k f in
-    let past = s.1 n c g in absurd (omega (arith, l, h, past))
+no-cut : (p : Program) (cs : Columns) (e : RunEnd) (many at n : ℕ) (k : Counts) (end : RootEnd) → at < many → counts_of_first p cs n many ≡ Some k → k.activations ≤ LIMIT → IsSoundRootEnd p cs e at end
+    → IsValue end
+no-cut p cs e many at n k (Ended v) l f h s = tt
+no-cut p cs e many at n k (Cut Null from) l f h s = s
+no-cut p cs e many at n k (Cut Limit from) l f h s =
+    let ms = mean_roots p cs n in
+    let (c, g, fewer) = first-fewer (take many ms) (at + 1) k f in
+    let past = s.1 n c (ap all_counts (sym (take-take (at + 1) many ms (omega (arith, l)))) ∙ g) in absurd (omega (arith, fewer, h, past))
 
 -- the end, where all roots were run
 pub sound-end : (p : Program) (cs : Columns) (ends : List RootEnd) (accepted : ℕ) → length ends ≡ length p.roots → IsSoundSoFar p cs (so_far ends accepted) → IsSoundEnd p cs (so_far ends accepted)
 sound-end p cs ends accepted many s = record {
   as_many = many;
   within = s.within;
+  counted = subst (λ n. IsCountedNow p cs n accepted) many s.counted;
+  complete = λ n k e h i end g. let w = slice_get_within ends i end g in no-cut p cs (so_far ends accepted) (length p.roots) i n k end (omega (arith, w, many)) e h (s.roots i end g);
   roots = s.roots;
   named = s.named;
-  complete = λ n k e h.
-      let all : counts_of_first p cs n (length ends) ≡ Some k = ap all_counts (take-all (mean_roots p cs n) (length ends) (many ∙ sym (length-mean_roots p cs n))) ∙ e in
-      record {
-        accepted = elim (s.counted n k all) [ inl g ↦ g | inr g ↦ absurd (omega (arith, g, h)) ];
-        values = λ i end g. no-cut p cs (so_far ends accepted) i n k end e h (s.roots i end g);
-      };
 }

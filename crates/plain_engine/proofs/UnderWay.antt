@@ -71,7 +71,7 @@ pub record Left (p : Program) (cs : Columns) (last : ℕ) (ws : List Waiting) (q
   pub comes : ComesTo p cs last ws (n + top.activations)
 
 abbrev pub IsCountedOn : Program → Columns → Place → ℕ → List Waiting → Place → ℕ → Type 0
-IsCountedOn p cs first before ws q n = (k : Counts) → GivesCounts p cs first k → Left p cs (before + k.activations) ws q n ⊎ IsPast before k
+IsCountedOn p cs first before ws q n = (k : Counts) → GivesCounts p cs first k → Left p cs (before + k.activations) ws q n ⊎ ((n ≡ LIMIT) × IsPast before k)
 
 -- the run of a task that began when so many were accepted
 pub record IsUnderWay (p : Program) (cs : Columns) (first : Place) (before : ℕ) (s : Stack) (n : ℕ) : Type 0 where
@@ -122,7 +122,7 @@ goes-called p cs first before n m s caller callee to u c =
         λ v g. subst (λ (x : Place). Gives p cs x v) c.is_callee g,
         sound-before p cs first s.callers s.top caller (λ v g. reached-gives p cs s.top caller v c.reaches g) u.sound,
       );
-      counted = λ k g. elim (u.counted k g) [ inl l ↦ inl (calls-left p cs (before + k.activations) s.callers s.top caller callee n m to c l) | inr x ↦ inr x ];
+      counted = λ k g. elim (u.counted k g) [ inl l ↦ inl (calls-left p cs (before + k.activations) s.callers s.top caller callee n m to c l) | inr x ↦ absurd (omega (arith, x.0, c.below)) ];
       rises = omega (arith, u.rises, up);
       within = in_limit;
     }
@@ -143,16 +143,16 @@ goes-respawned p cs first before n m s next u c =
       standing = record { placed = c.placed; steady = c.steady; waiting = all-later p cs s.callers n m up in_limit u.standing.waiting };
       sound = sound-before p cs first s.callers s.top next (λ v g. reached-gives p cs s.top c.at v c.reaches
           (respawned-gives p cs c.at c.target c.waits v c.does c.ready (subst (λ (x : Place). Gives p cs x v) c.is_next g))) u.sound;
-      counted = λ k g. elim (u.counted k g) [ inl l ↦ inl (respawn-left p cs (before + k.activations) s.callers s.top next n m c l) | inr x ↦ inr x ];
+      counted = λ k g. elim (u.counted k g) [ inl l ↦ inl (respawn-left p cs (before + k.activations) s.callers s.top next n m c l) | inr x ↦ absurd (omega (arith, x.0, c.below)) ];
       rises = omega (arith, u.rises, up);
       within = in_limit;
     }
 
 -- what is left behind an aggregate, where it does not go past the limit
 gather-left : (p : Program) (cs : Columns) (last : ℕ) (ws : List Waiting) (top next : Place) (n m : ℕ) → IsGathering p cs top n m next → Left p cs last ws top n
-    → Left p cs last ws next m ⊎ (LIMIT < last)
+    → Left p cs last ws next m ⊎ ((m ≡ LIMIT) × (LIMIT < last))
 gather-left p cs last ws top next n m c l = by (gathered_by n (length c.members)) where
-  by : Gathered n (length c.members) → Left p cs last ws next m ⊎ (LIMIT < last)
+  by : Gathered n (length c.members) → Left p cs last ws next m ⊎ ((m ≡ LIMIT) × (LIMIT < last))
   by (fits e h) =
       let (less, counts, s) = gather-counts p cs c.at c.to c.members l.top c.does c.ready (reached-counts p cs top c.at l.top c.reaches l.counts) in
       let same : next ≡ set_future c.at c.to (Some (Number 0)) = c.is_next ∙ ap (λ o. set_future c.at c.to o) e in
@@ -161,7 +161,7 @@ gather-left p cs last ws top next n m c l = by (gathered_by n (length c.members)
   by (meets e past h) =
       let least = starts-counts p cs c.at (Gathers c.to c.members) l.top c.does (reached-counts p cs top c.at l.top c.reaches l.counts) in
       let up = comes-up p cs last ws (n + l.top.activations) l.comes in
-      inr (omega (arith, least, up, past))
+      inr (c.counted ∙ h, omega (arith, least, up, past))
 
 goes-gathered : (p : Program) (cs : Columns) (first : Place) (before n m : ℕ) (s : Stack) (next : Place) → IsUnderWay p cs first before s n → IsGathering p cs s.top n m next
     → IsUnderWay p cs first before (record { top = next; callers = s.callers }) m
@@ -175,7 +175,7 @@ goes-gathered p cs first before n m s next u c =
           (subst (λ (x : Place). Gives p cs x v) c.is_next g))) u.sound;
       counted = λ k g. elim (u.counted k g) [
         | inl l ↦ elim (gather-left p cs (before + k.activations) s.callers s.top next n m c l) [ inl x ↦ inl x | inr x ↦ inr x ]
-        | inr x ↦ inr x
+        | inr x ↦ absurd (omega (arith, x.0, c.below))
       ];
       rises = omega (arith, u.rises, up);
       within = in_limit;
@@ -188,7 +188,7 @@ refused-past p cs first before n s u r k g = elim (u.counted k g) [
       let one = starts-counts p cs r.at r.act l.top r.does c in
       let up = comes-up p cs (before + k.activations) s.callers (n + l.top.activations) l.comes in
       omega (arith, one, r.starts, up, r.met)
-  | inr x ↦ x
+  | inr x ↦ x.1
 ]
 
 -- the counts that are left for a caller whose call gave this value
@@ -223,7 +223,7 @@ goes-resumed p cs first before n top w ws None formed u e =
     record {
       standing = record { placed = resumed-placed p cs w n None formed u.standing.waiting.0; steady = resumed-steady p cs w n None formed u.standing.waiting.0 (inr e.met); waiting = u.standing.waiting.1 };
       sound = sound-before p cs first ws w.running (set_future w.running w.to None) (λ x g. resumed-gives p cs w.running w.to c.call c.waits None x c.does c.ready (λ y h. cc) g) u.sound.2;
-      counted = λ k g. inr (refused-past p cs first before n (record { top = top; callers = w ∷ ws }) u e k g);
+      counted = λ k g. inr (e.met, refused-past p cs first before n (record { top = top; callers = w ∷ ws }) u e k g);
       rises = u.rises;
       within = u.within;
     }
@@ -245,8 +245,8 @@ over-with : (p : Program) (cs : Columns) (first : Place) (before n : ℕ) (top :
 over-with p cs first before n top (Some v) u e = (
   u.sound v (ended-gives p cs top e.at v e.reaches e.stops),
   λ k g. elim (u.counted k g) [
-    | inl l ↦ let z = ended-counts p cs top e.at v l.top e.reaches e.stops l.counts in inl (omega (arith, z, l.comes))
-    | inr x ↦ inr x
+    | inl l ↦ let z = ended-counts p cs top e.at v l.top e.reaches e.stops l.counts in omega (arith, z, l.comes, u.within)
+    | inr x ↦ omega (arith, x.0, x.1)
   ],
 )
 over-with p cs first before n top None u e = (e.met, λ k g. refused-past p cs first before n (record { top = top; callers = [] }) u e k g)

@@ -1,5 +1,5 @@
 -- What comes of a task that is carried to its end, where so many activations were accepted before.
-use Rattle.std.specs.Prelude.{◌≡◌, ℕ, ◌+◌, ◌<◌, ◌≤◌, ◌⊎◌, Option, Some, None}
+use Rattle.std.specs.Prelude.{◌≡◌, ℕ, ◌+◌, ◌<◌, ◌≤◌, min, Option, Some, None}
 use Rattle.task_syntax.specs.declared.value.Value.{Value}
 use Rattle.task_syntax.specs.declared.program.Program.{Program}
 use Rattle.task_syntax.specs.declared.columns.Columns.{Columns}
@@ -12,9 +12,9 @@ use Rattle.plain_engine.specs.declared.end.TheConstants.{LIMIT}
 abbrev pub IsPast : ℕ → Counts → Type 0
 IsPast before counts = LIMIT < before + counts.activations
 
--- these activations were accepted, or they go past the limit
+-- these activations were accepted, up to the limit
 abbrev pub IsCounted : ℕ → ℕ → Counts → Type 0
-IsCounted before accepted counts = (accepted ≡ before + counts.activations) ⊎ IsPast before counts
+IsCounted before accepted counts = accepted ≡ min (before + counts.activations) LIMIT
 
 -- the task gave a value, or was cut
 abbrev pub EndsSo : Program → Columns → Place → ℕ → ℕ → Option Value → Type 0
