@@ -1,5 +1,5 @@
 -- The small programs are well formed.
-use Rattle.std.proofs.Common.{◌≡◌, ℕ, zero, suc, ◌+◌, ◌<◌, ◌≤◌, ◌^◌, Bool, true, false, ◌&&◌, not, nat_eq, Some, None, List, [], ◌∷◌, map, length, slice_get, refl, sym, ◌∙◌, ap, subst, arith, lit<, lit≤}
+use Rattle.std.proofs.Common.{◌≡◌, ℕ, zero, suc, ◌+◌, ◌<◌, ◌≤◌, ◌^◌, Bool, true, false, ◌&&◌, not, nat_eq, Option, Some, None, List, [], ◌∷◌, map, length, slice_get, IfSome, refl, sym, ◌∙◌, ap, subst, arith, lit<, lit≤}
 use Rattle.std.specs.Option.{option_map}
 use Rattle.std.proofs.lemmas.Bool.{eqb-false}
 use Rattle.task_syntax.proofs.Bools.{both}
@@ -19,10 +19,10 @@ use Rattle.task_syntax.specs.declared.program.Program.{Program}
 use Rattle.task_syntax.specs.declared.instr.Argument.{Argument}
 use Rattle.task_syntax.specs.declared.instr.Argument.TheVariants as argument
 use Rattle.task_syntax.specs.declared.program.RootArgument.TheVariants as root_argument
-use Rattle.plain_engine.specs.Example.{state_of, kind_of, program_of, less_one_variables, less_one_code, less_one_of, dive_variables, dive_code, dive_last_code, dive_of, fib_variables, fib_code, fib_next_code, fib_sum_code, fib_states, fib_of}
+use Rattle.plain_engine.specs.Example.{line_of, state_of, kind_of, root_of, program_of, less_one_variables, less_one_code, less_one_of, dive_variables, dive_code, dive_last_code, dive_of, pass_variables, pass_code, pass_last_code, pass_states, pass_of, leaf_variables, leaf_states}
 
 -- P holds of each member and its place, counted from n
-abbrev EveryAt : {X : Type 0} → (ℕ → X → Type 0) → ℕ → List X → Type 0
+abbrev pub EveryAt : {X : Type 0} → (ℕ → X → Type 0) → ℕ → List X → Type 0
 EveryAt P n [] = Unit {0}
 EveryAt P n (x ∷ xs) = P n x × EveryAt P (suc n) xs
 
@@ -31,7 +31,7 @@ every-from P n [] h at x e = cc
 every-from P n (y ∷ ys) h zero x e = let s : y ≡ x = cc in let m : n ≡ n + zero = omega arith in subst (λ i. P i x) m (subst (λ z. P n z) s h.0)
 every-from P n (y ∷ ys) h (suc at) x e = let m : suc n + at ≡ n + suc at = omega arith in subst (λ i. P i x) m (every-from P (suc n) ys h.1 at x e)
 
-every : {X : Type 0} (P : ℕ → X → Type 0) (xs : List X) → EveryAt P 0 xs → EachAt xs P
+pub every : {X : Type 0} (P : ℕ → X → Type 0) (xs : List X) → EveryAt P 0 xs → EachAt xs P
 every P xs h at x e = let m : 0 + at ≡ at = omega arith in subst (λ i. P i x) m (every-from P 0 xs h at x e)
 
 -- no number stands twice
@@ -107,11 +107,12 @@ formed-state p kind line letter holds settled code name h d g e fits instrs labe
   ends = (at, last, many, is_last, ends);
 }
 
-formed-kind : (p : Program) (variables : List VariableOf) (states : List State) → 1 ≤ length variables → length variables ≤ 255 → EveryAt (λ _ (v : VariableOf). IsName v.name) 0 variables
-    → are_distinct (map (λ (v : VariableOf). first_byte v.name) variables) ≡ true → length states ≤ 32 → 0 < length states
-    → are_distinct (map first_byte (map (λ (s : State). s.name) states)) ≡ true → EveryAt (λ _ (s : State). IsFormedState p (kind_of 1 variables states) s) 0 states → IsFormedKind p (kind_of 1 variables states)
-formed-kind p variables states one few names differ states_few has_state states_differ formed = record {
-  name = refl;
+formed-kind : (p : Program) (line letter : ℕ) (variables : List VariableOf) (states : List State) → IsName (letter ∷ []) → 1 ≤ length variables → length variables ≤ 255
+    → EveryAt (λ _ (v : VariableOf). IsName v.name) 0 variables → are_distinct (map (λ (v : VariableOf). first_byte v.name) variables) ≡ true → length states ≤ 32 → 0 < length states
+    → are_distinct (map first_byte (map (λ (s : State). s.name) states)) ≡ true → EveryAt (λ _ (s : State). IsFormedState p (kind_of line letter variables states) s) 0 states
+    → IsFormedKind p (kind_of line letter variables states)
+formed-kind p line letter variables states name one few names differ states_few has_state states_differ formed = record {
+  name = name;
   arguments_fit = lit≤ tt;
   arguments_are_variables = one;
   variables_fit = few;
@@ -120,37 +121,38 @@ formed-kind p variables states one few names differ states_few has_state states_
   states_fit = states_few;
   has_state = has_state;
   state_names_differ = differ-by first_byte (map (λ (s : State). s.name) states) states_differ;
-  states = every (λ _ (s : State). IsFormedState p (kind_of 1 variables states) s) states formed;
+  states = every (λ _ (s : State). IsFormedState p (kind_of line letter variables states) s) states formed;
 }
 
-formed-root : (p : Program) (n : ℕ) → n < 2 ^ 64 → 0 < length p.kinds → (root : Root) → root ≡ record { line = 99; name = 114 ∷ []; kind = 0; arguments = root_argument.Number n ∷ []; behind = None; priority = Regular } → IsFormedRoot p 0 root
-formed-root p n h k root e = let P : Root → Type 0 = IsFormedRoot p 0 in subst P (sym e) (record {
-  name = refl;
+formed-root : (p : Program) (at line letter n : ℕ) (behind : Option ℕ) → IsName (letter ∷ []) → n < 2 ^ 64 → 0 < length p.kinds → IfSome behind (λ earlier. earlier < at)
+    → IsFormedRoot p at (root_of line letter behind n)
+formed-root p at line letter n behind name h k b = record {
+  name = name;
   kind = k;
   arguments_fit = lit≤ tt;
-  arguments = every (λ _ a. IsFormedRootArgument 0 a) (root_argument.Number n ∷ []) (h, tt);
-  behind = tt;
-})
+  arguments = every (λ _ a. IsFormedRootArgument at a) (root_argument.Number n ∷ []) (h, tt);
+  behind = b;
+}
 
-formed-program : (n : ℕ) (variables : List VariableOf) (states : List State) → n < 2 ^ 64 → IsFormedKind (program_of 1 variables states (root_argument.Number n ∷ [])) (kind_of 1 variables states)
-    → are_distinct (lines_of (program_of 1 variables states (root_argument.Number n ∷ []))) ≡ true → IsWellFormed (program_of 1 variables states (root_argument.Number n ∷ []))
+formed-program : (n : ℕ) (variables : List VariableOf) (states : List State) → n < 2 ^ 64 → IsFormedKind (program_of variables states n) (kind_of 1 107 variables states)
+    → are_distinct (lines_of (program_of variables states n)) ≡ true → IsWellFormed (program_of variables states n)
 formed-program n variables states h kind lines =
-    let p = program_of 1 variables states (root_argument.Number n ∷ []) in record {
+    let p = program_of variables states n in record {
       kinds_fit = lit≤ tt;
       kind_names_differ = differ-by first_byte ((107 ∷ []) ∷ []) refl;
-      kinds = every (λ _ (k : Kind). IsFormedKind p k) (kind_of 1 variables states ∷ []) (kind, tt);
+      kinds = every (λ _ (k : Kind). IsFormedKind p k) (kind_of 1 107 variables states ∷ []) (kind, tt);
       roots_fit = lit≤ tt;
       root_names_differ = differ-by first_byte ((114 ∷ []) ∷ []) refl;
-      roots = every (λ at (r : Root). IsFormedRoot p at r) p.roots (formed-root p n h (lit< tt) _ refl, tt);
+      roots = every (λ at (r : Root). IsFormedRoot p at r) p.roots (formed-root p 0 99 114 n None refl h (lit< tt) tt, tt);
       lines_differ = distinct-differ (lines_of p) lines;
     }
 
 pub less_one-formed : (n : ℕ) → n < 2 ^ 64 → IsWellFormed (less_one_of n)
 less_one-formed n h =
     let states : List State = state_of 2 115 [] [] less_one_code ∷ [] in
-    let kind = kind_of 1 less_one_variables states in
+    let kind = kind_of 1 107 less_one_variables states in
     formed-program n less_one_variables states h
-    (formed-kind (less_one_of n) less_one_variables states (lit≤ tt) (lit≤ tt) (refl, tt) refl (lit≤ tt) (lit< tt) refl (
+    (formed-kind (less_one_of n) 1 107 less_one_variables states refl (lit≤ tt) (lit≤ tt) (refl, tt) refl (lit≤ tt) (lit< tt) refl (
       formed-state (less_one_of n) kind 2 115 [] [] less_one_code refl tt refl tt refl (lit≤ tt) ((refl, refl, lit< tt), (refl, tt)) refl (λ l. absurd l, tt)
           1 (Done (Variable 0)) refl refl tt,
       tt,
@@ -159,10 +161,10 @@ less_one-formed n h =
 pub dive-formed : (n : ℕ) → n < 2 ^ 64 → IsWellFormed (dive_of n)
 dive-formed n h =
     let states : List State = state_of 2 115 [] [] dive_code ∷ state_of 5 102 (1 ∷ []) (1 ∷ []) dive_last_code ∷ [] in
-    let kind = kind_of 1 dive_variables states in
+    let kind = kind_of 1 107 dive_variables states in
     let number : EveryAt (λ _ (a : Argument). IsFormedArgument kind a) 0 (argument.Number (Variable 0) ∷ []) = (refl, tt) in
     formed-program n dive_variables states h
-    (formed-kind (dive_of n) dive_variables states (lit≤ tt) (lit≤ tt) (refl, (refl, tt)) refl (lit≤ tt) (lit< tt) refl (
+    (formed-kind (dive_of n) 1 107 dive_variables states refl (lit≤ tt) (lit≤ tt) (refl, (refl, tt)) refl (lit≤ tt) (lit< tt) refl (
       formed-state (dive_of n) kind 2 115 [] [] dive_code refl tt refl tt refl (lit≤ tt)
           ((refl, lit< tt, lit≤ tt, every (λ _ (a : Argument). IsFormedArgument kind a) (argument.Number (Variable 0) ∷ []) number, tt), ((lit< tt, refl), tt)) refl (λ l. absurd l, tt)
           1 (Again 1 (Some 1) Regular) refl refl tt,
@@ -173,39 +175,33 @@ dive-formed n h =
       ),
     )) refl
 
-pub fib-formed : (n : ℕ) → n < 2 ^ 64 → IsWellFormed (fib_of n)
-fib-formed n h =
-    let kind = kind_of 1 fib_variables fib_states in
-    let first : EveryAt (λ _ (a : Argument). IsFormedArgument kind a) 0 (argument.Number (Variable 1) ∷ []) = (refl, tt) in
-    let second : EveryAt (λ _ (a : Argument). IsFormedArgument kind a) 0 (argument.Number (Variable 2) ∷ []) = (refl, tt) in
-    formed-program n fib_variables fib_states h
-    (formed-kind (fib_of n) fib_variables fib_states (lit≤ tt) (lit≤ tt) (refl, (refl, (refl, (refl, (refl, tt))))) refl (lit≤ tt) (lit< tt) refl (
-      formed-state (fib_of n) kind 2 115 [] [] fib_code refl tt refl tt refl (lit≤ tt) (
-        (refl, lit< tt, (lit< tt, (Label (108 ∷ []), refl, tt))),
-        (
-          (refl, refl, lit< tt),
-          (
-            (refl, refl, lit< tt),
-            (
-              (refl, lit< tt, lit≤ tt, every (λ _ (a : Argument). IsFormedArgument kind a) (argument.Number (Variable 1) ∷ []) first, tt),
-              (
-                (refl, lit< tt, lit≤ tt, every (λ _ (a : Argument). IsFormedArgument kind a) (argument.Number (Variable 2) ∷ []) second, tt),
-                ((lit< tt, refl), (refl, (refl, tt))),
-              ),
-            ),
-          ),
-        ),
-      ) refl
-          (λ l. absurd l, (λ l. absurd l, (λ l. absurd l, (λ l. absurd l, (λ l. absurd l, (λ l. tt, (λ l. absurd l, tt)))))))
-          7 (Done (Variable 0)) refl refl tt,
+pub pass-formed : (n : ℕ) → n < 2 ^ 64 → IsWellFormed (pass_of n)
+pass-formed n h =
+    let p = pass_of n in
+    let kind = kind_of 1 107 pass_variables pass_states in
+    let leaf = kind_of 9 108 leaf_variables leaf_states in
+    let number : EveryAt (λ _ (a : Argument). IsFormedArgument kind a) 0 (argument.Number (Variable 0) ∷ []) = (refl, tt) in
+    let first = formed-kind p 1 107 pass_variables pass_states refl (lit≤ tt) (lit≤ tt) (refl, (refl, (refl, tt))) refl (lit≤ tt) (lit< tt) refl (
+      formed-state p kind 2 115 [] [] pass_code refl tt refl tt refl (lit≤ tt) (
+        (refl, lit< tt, lit≤ tt, every (λ _ (a : Argument). IsFormedArgument kind a) (argument.Number (Variable 0) ∷ []) number, tt),
+        ((refl, lit< tt, lit≤ tt, every (λ _ x. IsFutureAt kind x) (1 ∷ 1 ∷ []) (refl, (refl, tt))), ((lit< tt, refl), tt)),
+      ) refl (λ l. absurd l, (λ l. absurd l, tt)) 2 (Again 1 (Some 2) Regular) refl refl tt,
       (
-        formed-state (fib_of n) kind 11 102 (3 ∷ 4 ∷ []) (3 ∷ []) fib_next_code refl (refl, (refl, tt)) refl (refl, tt) refl (lit≤ tt) ((lit< tt, refl), tt) refl tt
-            0 (Again 2 (Some 4) Regular) refl refl tt,
-        (
-          formed-state (fib_of n) kind 13 109 (3 ∷ 4 ∷ []) (3 ∷ 4 ∷ []) fib_sum_code refl (refl, (refl, tt)) refl (refl, (refl, tt)) refl (lit≤ tt)
-              ((refl, refl), ((refl, refl), ((refl, refl, refl), (refl, tt)))) refl (λ l. absurd l, (λ l. absurd l, (λ l. absurd l, tt)))
-              3 (Done (Variable 1)) refl refl tt,
-          tt,
-        ),
+        formed-state p kind 6 102 (1 ∷ []) (1 ∷ []) pass_last_code refl (refl, tt) refl (refl, tt) refl (lit≤ tt) ((refl, refl), (refl, tt)) refl (λ l. absurd l, tt)
+            1 (Done (Variable 0)) refl refl tt,
+        tt,
       ),
-    )) refl
+    ) in
+    let second = formed-kind p 9 108 leaf_variables leaf_states refl (lit≤ tt) (lit≤ tt) (refl, tt) refl (lit≤ tt) (lit< tt) refl (
+      formed-state p leaf 10 115 [] [] (line_of 11 (Done (Variable 0)) ∷ []) refl tt refl tt refl (lit≤ tt) (refl, tt) refl tt 0 (Done (Variable 0)) refl refl tt,
+      tt,
+    ) in
+    record {
+      kinds_fit = lit≤ tt;
+      kind_names_differ = differ-by first_byte ((107 ∷ []) ∷ (108 ∷ []) ∷ []) refl;
+      kinds = every (λ _ (k : Kind). IsFormedKind p k) p.kinds (first, (second, tt));
+      roots_fit = lit≤ tt;
+      root_names_differ = differ-by first_byte ((114 ∷ []) ∷ (113 ∷ []) ∷ []) refl;
+      roots = every (λ at (r : Root). IsFormedRoot p at r) p.roots (formed-root p 0 98 114 n None refl h (lit< tt) tt, (formed-root p 1 99 113 n (Some 0) refl h (lit< tt) (lit< tt), tt));
+      lines_differ = distinct-differ (lines_of p) refl;
+    }

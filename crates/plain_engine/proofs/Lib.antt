@@ -14,3 +14,5 @@ pub mod Named
 pub mod Earlier
 pub mod Roots
 pub mod Formed
+pub mod Straight
+pub mod Validity

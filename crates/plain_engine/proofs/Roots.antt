@@ -242,9 +242,16 @@ ran p cs ends before accepted value root formed e s none below carried = by valu
         let (less, f, u) = counted-one p cs (root_call (values_at_ends ends) root) q g in
         let y = c.ends.1 less (g.0, f) in
         omega (arith, t, u, y)) in
-        sound-more p cs ends (Cut Limit (Task (before + 1))) before accepted root formed e s (omega (arith, c.rises)) c.within
-        (c.ends.0, past, (omega arith, omega (arith, below), subst (λ xs. Each xs IsValue) (sym (take-append-le (length ends) ends (Cut Limit (Task (before + 1)) ∷ []) (omega arith) ∙ take-length ends)) k.values,
-        λ n a f. let g = met n a f in omega (arith, g)))
+        sound-more p cs ends (Cut Limit (Task (before + 1))) before accepted root formed e s (omega (arith, c.rises)) c.within (
+          c.ends.0,
+          past,
+          (
+            omega arith,
+            omega (arith, below),
+            subst (λ xs. Each xs IsValue) (sym (take-append-le (length ends) ends (Cut Limit (Task (before + 1)) ∷ []) (omega arith) ∙ take-length ends)) k.values,
+            λ n a f. let g = met n a f in omega (arith, g),
+          ),
+        )
         (sym none) (past-counted p cs (length ends) accepted c.ends.0 past) (inr c.ends.0)
 
 passed-at : (fs : List (Option Value)) (arguments : List RootArgument) (x : ℕ) (a : RootArgument) → slice_get arguments x ≡ Some a → future_at (map (root_future fs) arguments) x ≡ root_future fs a

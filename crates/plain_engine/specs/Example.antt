@@ -1,19 +1,18 @@
--- Small programs, each of one kind and one root.
-use Rattle.std.specs.Prelude.{ℕ, Some, None, List, [], ◌∷◌, false}
+-- Small programs.
+use Rattle.std.specs.Prelude.{ℕ, Option, Some, None, List, [], ◌∷◌, false}
 use Rattle.task_syntax.specs.declared.value.Priority.TheVariants.{Regular}
 use Rattle.task_syntax.specs.declared.instr.Operand.TheVariants.{Literal, Variable}
 use Rattle.task_syntax.specs.declared.instr.Argument.TheVariants as argument
 use Rattle.task_syntax.specs.declared.instr.MathOp.TheVariants as op
-use Rattle.task_syntax.specs.declared.instr.Relation.TheVariants.{Less}
 use Rattle.task_syntax.specs.declared.instr.Instr.{Instr}
-use Rattle.task_syntax.specs.declared.instr.Instr.TheVariants.{Math, If, Label, Spawn, Get, Again, Done}
+use Rattle.task_syntax.specs.declared.instr.Instr.TheVariants.{Math, Spawn, All, Get, Again, Done}
 use Rattle.task_syntax.specs.declared.instr.Line.{Line}
 use Rattle.task_syntax.specs.declared.program.Sort.{Sort}
 use Rattle.task_syntax.specs.declared.program.Sort.TheVariants as sort
 use Rattle.task_syntax.specs.declared.program.Variable.{Variable as VariableOf}
 use Rattle.task_syntax.specs.declared.program.State.{State}
 use Rattle.task_syntax.specs.declared.program.Kind.{Kind}
-use Rattle.task_syntax.specs.declared.program.RootArgument.{RootArgument}
+use Rattle.task_syntax.specs.declared.program.Root.{Root}
 use Rattle.task_syntax.specs.declared.program.RootArgument.TheVariants as root_argument
 use Rattle.task_syntax.specs.declared.program.Program.{Program}
 
@@ -27,15 +26,17 @@ line_of n instr = record { line = n; instr = instr }
 abbrev pub state_of : ℕ → ℕ → List ℕ → List ℕ → List Line → State
 state_of line letter holds settled code = record { line = line; name = letter ∷ []; holds = holds; settled = settled; code = code }
 
-abbrev pub kind_of : ℕ → List VariableOf → List State → Kind
-kind_of arguments variables states = record { line = 1; name = 107 ∷ []; arguments = arguments; variables = variables; states = states }
+-- a kind of one argument
+abbrev pub kind_of : ℕ → ℕ → List VariableOf → List State → Kind
+kind_of line letter variables states = record { line = line; name = letter ∷ []; arguments = 1; variables = variables; states = states }
+
+-- a root that passes a number to the first kind
+abbrev pub root_of : ℕ → ℕ → Option ℕ → ℕ → Root
+root_of line letter behind n = record { line = line; name = letter ∷ []; kind = 0; arguments = root_argument.Number n ∷ []; behind = behind; priority = Regular }
 
 -- the kind k, with the root r of it
-abbrev pub program_of : ℕ → List VariableOf → List State → List RootArgument → Program
-program_of arguments variables states given = record {
-  kinds = kind_of arguments variables states ∷ [];
-  roots = record { line = 99; name = 114 ∷ []; kind = 0; arguments = given; behind = None; priority = Regular } ∷ [];
-}
+abbrev pub program_of : List VariableOf → List State → ℕ → Program
+program_of variables states n = record { kinds = kind_of 1 107 variables states ∷ []; roots = root_of 99 114 None n ∷ [] }
 
 -- n, from which 1 is subtracted
 abbrev pub less_one_variables : List VariableOf
@@ -45,7 +46,7 @@ abbrev pub less_one_code : List Line
 less_one_code = line_of 3 (Math op.Sub 0 (Variable 0) (Literal 1)) ∷ line_of 4 (Done (Variable 0)) ∷ []
 
 abbrev pub less_one_of : ℕ → Program
-less_one_of n = program_of 1 less_one_variables (state_of 2 115 [] [] less_one_code ∷ []) (root_argument.Number n ∷ [])
+less_one_of n = program_of less_one_variables (state_of 2 115 [] [] less_one_code ∷ []) n
 
 -- a task that calls itself without end, and then asks for what that gave
 abbrev pub dive_variables : List VariableOf
@@ -58,26 +59,30 @@ abbrev pub dive_last_code : List Line
 dive_last_code = line_of 6 (Get 0 1) ∷ line_of 7 (Done (Variable 0)) ∷ []
 
 abbrev pub dive_of : ℕ → Program
-dive_of n = program_of 1 dive_variables (state_of 2 115 [] [] dive_code ∷ state_of 5 102 (1 ∷ []) (1 ∷ []) dive_last_code ∷ []) (root_argument.Number n ∷ [])
+dive_of n = program_of dive_variables (state_of 2 115 [] [] dive_code ∷ state_of 5 102 (1 ∷ []) (1 ∷ []) dive_last_code ∷ []) n
 
--- the fibonacci number of n
-abbrev pub fib_variables : List VariableOf
-fib_variables = variable_of 110 sort.Number ∷ variable_of 120 sort.Number ∷ variable_of 121 sort.Number ∷ variable_of 97 sort.Future ∷ variable_of 98 sort.Future ∷ []
+-- a task that gives what its call gives, behind an aggregate of that call with itself
+abbrev pub pass_variables : List VariableOf
+pass_variables = variable_of 110 sort.Number ∷ variable_of 97 sort.Future ∷ variable_of 103 sort.Future ∷ []
 
-abbrev pub fib_code : List Line
-fib_code =
-    line_of 3 (If Less (Variable 0) (Literal 2) 6) ∷ line_of 4 (Math op.Sub 1 (Variable 0) (Literal 1)) ∷ line_of 5 (Math op.Sub 2 (Variable 0) (Literal 2))
-    ∷ line_of 6 (Spawn 3 0 (argument.Number (Variable 1) ∷ []) None Regular false) ∷ line_of 7 (Spawn 4 0 (argument.Number (Variable 2) ∷ []) None Regular false)
-    ∷ line_of 8 (Again 1 (Some 3) Regular) ∷ line_of 9 (Label (108 ∷ [])) ∷ line_of 10 (Done (Variable 0)) ∷ []
+abbrev pub pass_code : List Line
+pass_code = line_of 3 (Spawn 1 1 (argument.Number (Variable 0) ∷ []) None Regular false) ∷ line_of 4 (All 2 (1 ∷ 1 ∷ []) Regular false) ∷ line_of 5 (Again 1 (Some 2) Regular) ∷ []
 
-abbrev pub fib_next_code : List Line
-fib_next_code = line_of 12 (Again 2 (Some 4) Regular) ∷ []
+abbrev pub pass_last_code : List Line
+pass_last_code = line_of 7 (Get 0 1) ∷ line_of 8 (Done (Variable 0)) ∷ []
 
-abbrev pub fib_sum_code : List Line
-fib_sum_code = line_of 14 (Get 1 3) ∷ line_of 15 (Get 2 4) ∷ line_of 16 (Math op.Add 1 (Variable 1) (Variable 2)) ∷ line_of 17 (Done (Variable 1)) ∷ []
+abbrev pub pass_states : List State
+pass_states = state_of 2 115 [] [] pass_code ∷ state_of 6 102 (1 ∷ []) (1 ∷ []) pass_last_code ∷ []
 
-abbrev pub fib_states : List State
-fib_states = state_of 2 115 [] [] fib_code ∷ state_of 11 102 (3 ∷ 4 ∷ []) (3 ∷ []) fib_next_code ∷ state_of 13 109 (3 ∷ 4 ∷ []) (3 ∷ 4 ∷ []) fib_sum_code ∷ []
+abbrev pub leaf_variables : List VariableOf
+leaf_variables = variable_of 110 sort.Number ∷ []
 
-abbrev pub fib_of : ℕ → Program
-fib_of n = program_of 1 fib_variables fib_states (root_argument.Number n ∷ [])
+abbrev pub leaf_states : List State
+leaf_states = state_of 10 115 [] [] (line_of 11 (Done (Variable 0)) ∷ []) ∷ []
+
+-- two such tasks, the second behind the first
+abbrev pub pass_of : ℕ → Program
+pass_of n = record {
+  kinds = kind_of 1 107 pass_variables pass_states ∷ kind_of 9 108 leaf_variables leaf_states ∷ [];
+  roots = root_of 98 114 None n ∷ root_of 99 113 (Some 0) n ∷ [];
+}

@@ -1,5 +1,5 @@
 ghost use Rattle.std.specs.Prelude.{◌≡◌, [], ◌∷◌, IfOk, Some, None, false};
-ghost use Rattle.plain_engine.specs.Example.{variable_of, line_of, state_of, program_of, fib_code, fib_of, fib_states, fib_sum_code, fib_variables, dive_of, less_one_of};
+ghost use Rattle.plain_engine.specs.Example.{variable_of, line_of, state_of, kind_of, root_of, program_of, less_one_of, dive_of, pass_of, pass_states, leaf_states};
 
 use crate::end::{CutFrom, CutTag, PlainEnd, RootEnd};
 use crate::run::PlainRun;
@@ -7,8 +7,8 @@ use std::alloc::{AllocError, Global};
 use std::process::Abort;
 use std::test::Fail;
 use task_syntax::{
-    Argument, Checked, Instr, Kind, Line, List, MathOp, Memory, Name, Operand, Priority, Program,
-    Relation, Root, RootArgument, Sort, State, Trap, Value, Variable,
+    Argument, Checked, Columns, Instr, Kind, Line, List, MathOp, Memory, Name, Operand, Priority,
+    Program, Root, RootArgument, Sort, State, Trap, Value, Variable,
 };
 
 fn letter(byte: u8) -> Name
@@ -38,32 +38,42 @@ fn state(line: u32, name: u8, holds: Vec<u16>, settled: Vec<u16>, code: Vec<Line
     }
 }
 
-fn program(
-    alloc: Global,
-    arguments: u16,
-    variables: Vec<Variable>,
-    states: Vec<State>,
-    given: Vec<RootArgument>,
-) -> Result<Program, AllocError>
-    ensures { IfOk result (λ p. p ≡ program_of arguments variables.items states.items given.items) }
+fn kind(line: u32, name: u8, variables: Vec<Variable>, states: Vec<State>) -> Kind
+    ensures { result ≡ kind_of line name variables.items states.items }
 {
-    let kind = Kind {
-        line: 1,
-        name: letter(b'k'),
-        arguments,
+    Kind {
+        line,
+        name: letter(name),
+        arguments: 1,
         variables: List::from_vec(variables),
         states: List::from_vec(states),
-    };
-    let root = Root {
-        line: 99,
-        name: letter(b'r'),
+    }
+}
+
+fn root(alloc: Global, line: u32, name: u8, behind: Option<u8>, n: u64) -> Result<Root, AllocError>
+    ensures { IfOk result (λ r. r ≡ root_of line name behind n) }
+{
+    let given = vec![in alloc; RootArgument::Number(n)]?;
+    Ok(Root {
+        line,
+        name: letter(name),
         kind: 0,
         arguments: List::from_vec(given),
-        behind: None,
+        behind,
         priority: Priority::Regular,
-    };
-    let kinds = vec![in alloc; kind]?;
-    let roots = vec![in alloc; root]?;
+    })
+}
+
+fn program(
+    alloc: Global,
+    variables: Vec<Variable>,
+    states: Vec<State>,
+    n: u64,
+) -> Result<Program, AllocError>
+    ensures { IfOk result (λ p. p ≡ program_of variables.items states.items n) }
+{
+    let kinds = vec![in alloc; kind(1, b'k', variables, states)]?;
+    let roots = vec![in alloc; root(alloc, 99, b'r', None, n)?]?;
     Ok(Program {
         kinds: List::from_vec(kinds),
         roots: List::from_vec(roots),
@@ -108,13 +118,13 @@ fn again(line: u32, target: u16, behind: u16) -> Line
     Line { line, instr }
 }
 
-fn spawn(alloc: Global, line: u32, to: u16, passed: u16) -> Result<Line, AllocError>
-    ensures { IfOk result (λ l. l ≡ line_of line (Instr.Spawn to 0 (Argument.Number (Operand.Variable passed) ∷ []) None Priority.Regular false)) }
+fn spawn(alloc: Global, line: u32, to: u16, kind: u16, passed: u16) -> Result<Line, AllocError>
+    ensures { IfOk result (λ l. l ≡ line_of line (Instr.Spawn to kind (Argument.Number (Operand.Variable passed) ∷ []) None Priority.Regular false)) }
 {
     let arguments = vec![in alloc; Argument::Number(Operand::Variable(passed))]?;
     let instr = Instr::Spawn {
         to,
-        kind: 0,
+        kind,
         arguments: List::from_vec(arguments),
         behind: None,
         priority: Priority::Regular,
@@ -130,119 +140,69 @@ fn less_one(alloc: Global, n: u64) -> Result<Program, AllocError>
     let variables = vec![in alloc; variable(b'n', Sort::Number)]?;
     let code = vec![in alloc; subtract, done(4, 0)]?;
     let states = vec![in alloc; state(2, b's', Vec::new(alloc), Vec::new(alloc), code)]?;
-    let given = vec![in alloc; RootArgument::Number(n)]?;
-    program(alloc, 1, variables, states, given)
+    program(alloc, variables, states, n)
 }
 
 fn dive(alloc: Global, n: u64) -> Result<Program, AllocError>
     ensures { IfOk result (λ p. p ≡ dive_of n) }
 {
     let variables = vec![in alloc; variable(b'n', Sort::Number), variable(b'a', Sort::Future)]?;
-    let code = vec![in alloc; spawn(alloc, 3, 1, 0)?, again(4, 1, 1)]?;
+    let code = vec![in alloc; spawn(alloc, 3, 1, 0, 0)?, again(4, 1, 1)]?;
     let last = vec![in alloc; get(6, 0, 1), done(7, 0)]?;
     let start = state(2, b's', Vec::new(alloc), Vec::new(alloc), code);
     let held = vec![in alloc; 1]?;
     let settled = vec![in alloc; 1]?;
     let states = vec![in alloc; start, state(5, b'f', held, settled, last)]?;
-    let given = vec![in alloc; RootArgument::Number(n)]?;
-    program(alloc, 1, variables, states, given)
+    program(alloc, variables, states, n)
 }
 
-fn fib_start(alloc: Global) -> Result<Vec<Line>, AllocError>
-    ensures { IfOk result (λ code. code.items ≡ fib_code) }
+fn pass_states_in(alloc: Global) -> Result<Vec<State>, AllocError>
+    ensures { IfOk result (λ states. states.items ≡ pass_states) }
 {
-    let jump = Instr::If {
-        relation: Relation::Less,
-        left: Operand::Variable(0),
-        right: Operand::Literal(2),
-        target: 6,
+    let members = vec![in alloc; 1, 1]?;
+    let all = Line {
+        line: 4,
+        instr: Instr::All {
+            to: 2,
+            members: List::from_vec(members),
+            priority: Priority::Regular,
+            retry: false,
+        },
     };
-    let label = Instr::Label { name: letter(b'l') };
-    let first = math(4, MathOp::Sub, 1, Operand::Variable(0), Operand::Literal(1));
-    let second = math(5, MathOp::Sub, 2, Operand::Variable(0), Operand::Literal(2));
-    let spawn_first = spawn(alloc, 6, 3, 1)?;
-    let spawn_second = spawn(alloc, 7, 4, 2)?;
-    let jump_line = Line {
-        line: 3,
-        instr: jump,
-    };
-    let label_line = Line {
-        line: 9,
-        instr: label,
-    };
-    Ok(vec![in alloc;
-        jump_line,
-        first,
-        second,
-        spawn_first,
-        spawn_second,
-        again(8, 1, 3),
-        label_line,
-        done(10, 0),
-    ]?)
+    let code = vec![in alloc; spawn(alloc, 3, 1, 1, 0)?, all, again(5, 1, 2)]?;
+    let last = vec![in alloc; get(7, 0, 1), done(8, 0)]?;
+    let start = state(2, b's', Vec::new(alloc), Vec::new(alloc), code);
+    let held = vec![in alloc; 1]?;
+    let settled = vec![in alloc; 1]?;
+    Ok(vec![in alloc; start, state(6, b'f', held, settled, last)]?)
 }
 
-fn fib_sum(alloc: Global) -> Result<Vec<Line>, AllocError>
-    ensures { IfOk result (λ code. code.items ≡ fib_sum_code) }
+fn leaf_states_in(alloc: Global) -> Result<Vec<State>, AllocError>
+    ensures { IfOk result (λ states. states.items ≡ leaf_states) }
 {
-    let add = math(
-        16,
-        MathOp::Add,
-        1,
-        Operand::Variable(1),
-        Operand::Variable(2),
-    );
-    Ok(vec![in alloc; get(14, 1, 3), get(15, 2, 4), add, done(17, 1)]?)
+    let code = vec![in alloc; done(11, 0)]?;
+    Ok(vec![in alloc; state(10, b's', Vec::new(alloc), Vec::new(alloc), code)]?)
 }
 
-fn fib_variables_in(alloc: Global) -> Result<Vec<Variable>, AllocError>
-    ensures { IfOk result (λ variables. variables.items ≡ fib_variables) }
+fn pass(alloc: Global, n: u64) -> Result<Program, AllocError>
+    ensures { IfOk result (λ p. p ≡ pass_of n) }
 {
-    let n = variable(b'n', Sort::Number);
-    let x = variable(b'x', Sort::Number);
-    let y = variable(b'y', Sort::Number);
-    Ok(vec![in alloc;
-        n,
-        x,
-        y,
+    let variables = vec![in alloc;
+        variable(b'n', Sort::Number),
         variable(b'a', Sort::Future),
-        variable(b'b', Sort::Future),
-    ]?)
-}
-
-fn fib_states_in(alloc: Global) -> Result<Vec<State>, AllocError>
-    ensures { IfOk result (λ states. states.items ≡ fib_states) }
-{
-    let start = state(2, b's', Vec::new(alloc), Vec::new(alloc), fib_start(alloc)?);
-    let next_code = vec![in alloc; again(12, 2, 4)]?;
-    let next = state(
-        11,
-        b'f',
-        vec![in alloc; 3, 4]?,
-        vec![in alloc; 3]?,
-        next_code,
-    );
-    let sum = state(
-        13,
-        b'm',
-        vec![in alloc; 3, 4]?,
-        vec![in alloc; 3, 4]?,
-        fib_sum(alloc)?,
-    );
-    Ok(vec![in alloc; start, next, sum]?)
-}
-
-fn fib(alloc: Global, n: u64) -> Result<Program, AllocError>
-    ensures { IfOk result (λ p. p ≡ fib_of n) }
-{
-    let given = vec![in alloc; RootArgument::Number(n)]?;
-    program(
-        alloc,
-        1,
-        fib_variables_in(alloc)?,
-        fib_states_in(alloc)?,
-        given,
-    )
+        variable(b'g', Sort::Future),
+    ]?;
+    let number = vec![in alloc; variable(b'n', Sort::Number)]?;
+    let first = kind(1, b'k', variables, pass_states_in(alloc)?);
+    let leaf = kind(9, b'l', number, leaf_states_in(alloc)?);
+    let kinds = vec![in alloc; first, leaf]?;
+    let alone = root(alloc, 98, b'r', None, n)?;
+    let behind = root(alloc, 99, b'q', Some(0), n)?;
+    let roots = vec![in alloc; alone, behind]?;
+    Ok(Program {
+        kinds: List::from_vec(kinds),
+        roots: List::from_vec(roots),
+    })
 }
 
 fn run_less_one(alloc: Global, n: u64) -> Result<PlainEnd, Memory> {
@@ -255,9 +215,9 @@ fn run_dive(alloc: Global, n: u64) -> Result<PlainEnd, Memory> {
     PlainRun::first(alloc, &Checked::seal(program))
 }
 
-fn run_fib(alloc: Global, n: u64) -> Result<PlainEnd, Memory> {
-    let program = fib(alloc, n)?;
-    PlainRun::first(alloc, &Checked::seal(program))
+fn run_pass(alloc: Global, n: u64) -> Result<PlainEnd, Memory> {
+    let program = pass(alloc, n)?;
+    PlainRun::run(alloc, &Checked::seal(program), &Columns::none(alloc))
 }
 
 fn only_root(rt: &impl Abort, end: &PlainEnd) -> RootEnd {
@@ -279,12 +239,12 @@ fn subtracts_or_traps(rt: HostRuntime) -> Result<(), Fail> {
 }
 
 #[test]
-fn adds_up_what_its_calls_give(rt: HostRuntime) -> Result<(), Fail> {
-    for (n, value, accepted) in [(2, 1, 5), (10, 55, 353), (22, 17711, 114625)] {
-        let end = run_fib(rt.alloc(), n).ok().ok_or("memory")?;
-        assert_eq!(rt; only_root(&rt, &end), RootEnd::Value(Value::Number(value)));
-        assert_eq!(rt; end.accepted(), accepted);
-    }
+fn passes_on_what_a_call_gives(rt: HostRuntime) -> Result<(), Fail> {
+    let end = run_pass(rt.alloc(), 7).ok().ok_or("memory")?;
+    let given = RootEnd::Value(Value::Number(7));
+    assert_eq!(rt; end.roots(), [given, given].as_slice());
+    // Of each root: its start, its call, an activation for each member of the aggregate, and the state behind it.
+    assert_eq!(rt; end.accepted(), 10);
     Ok(())
 }
 
