@@ -5,17 +5,18 @@ use Rattle.task_syntax.specs.declared.value.Value.{Value}
 use Rattle.task_syntax.specs.declared.value.Value.TheVariants.{Number}
 use Rattle.task_syntax.specs.declared.program.Program.{Program}
 use Rattle.task_syntax.specs.declared.columns.Columns.{Columns}
-use Rattle.task_meaning.specs.Meant.{Meant, Counts, counted, plus, gives, adding, with_value, future_at, behind, behind_all}
+use Rattle.task_meaning.specs.Meant.{Meant, Counts, counted, total, plus, gives, adding, with_value, future_at, behind, behind_all}
 use Rattle.task_meaning.specs.Frame.{Place, Call, entry, enter, set_future}
 use Rattle.task_meaning.specs.Meaning.{child_of, aggregate_of, rest, mean, Gives, GivesCounts, CallGives}
 use Rattle.task_meaning.specs.Acts.{Act, Steps, Calls, Gathers, Reads, Respawns, Finishes, followed}
 use Rattle.task_meaning.specs.Runs.{HasValue, IsReady}
+use Rattle.task_meaning.specs.Leads.{no_counts}
 use Rattle.task_meaning.proofs.ActByAct.{rest-follows}
 use Rattle.task_meaning.proofs.Grows.{Stays, Stays-at, AllStay-refl, AllStay-set}
 use Rattle.task_meaning.proofs.Fuel.{rest-grows, mean-within}
 use Rattle.task_meaning.proofs.Complete.{complete-mean}
 use Rattle.task_meaning.proofs.FromRuns.{behind_all-ready}
-use Rattle.task_meaning.proofs.GoesOn.{aggregate-given}
+use Rattle.task_meaning.proofs.GoesOn.{aggregate-given, counts-later, call_value-later}
 use Rattle.plain_engine.specs.Steps.{Reaches, StopsAt, DoesAt, activations_of}
 use Rattle.plain_engine.proofs.Along.{reaches-rest, ends-rest}
 use Rattle.plain_engine.proofs.Sums.{plus-adds, counted-more, counted-one, some-same}
@@ -23,7 +24,7 @@ use Rattle.plain_engine.proofs.Sums.{plus-adds, counted-more, counted-one, some-
 rest-does : (p : Program) (cs : Columns) (n : ℕ) (q : Place) (act : Act Value) → DoesAt p cs q act → rest p cs (suc n) q ≡ followed p cs n act q
 rest-does p cs n q act d = rest-follows p cs n q d.line d.stands d.ahead ∙ ap (λ a. followed p cs n a q) d.does
 
-ready-behind : (waits : Option ℕ) (fs : List (Option Value)) (m : Meant) → IsReady fs waits → behind waits fs m ≡ m
+pub ready-behind : (waits : Option ℕ) (fs : List (Option Value)) (m : Meant) → IsReady fs waits → behind waits fs m ≡ m
 ready-behind None fs m r = refl
 ready-behind (Some x) fs m r = ap (λ o. with_value o (λ v. m)) r.1
 
@@ -173,3 +174,46 @@ gather-counts p cs q to members k d r (zero, e) = cc
 gather-counts p cs q to members k d r (suc n, e) =
     let (less, f, s) = counted-more (rest p cs (suc n) (set_future q to (Some (Number 0)))).counts 1 (length members) k
     (ap (λ (m : Meant). m.counts) (sym (rest-gathers p cs n q to members d r)) ∙ e) in (less, (suc n, f), s)
+
+-- counts go back along what a task does on its own, over a respawn, and over an aggregate
+pub counts-reached : (p : Program) (cs : Columns) (q now : Place) (k : Counts) → Reaches p cs q now → GivesCounts p cs now k → GivesCounts p cs q k
+counts-reached p cs q now k r (zero, e) = cc
+counts-reached p cs q now k r (suc n, e) = (suc n, ap (λ (m : Meant). m.counts) (reaches-rest p cs n q now r) ∙ e)
+
+pub counts-respawned : (p : Program) (cs : Columns) (q : Place) (target : ℕ) (waits : Option ℕ) (j : Counts) → DoesAt p cs q (Respawns target waits) → IsReady q.futures waits
+    → GivesCounts p cs (enter p q target) j → (k : Counts) × GivesCounts p cs q k × (k.activations ≡ 1 + j.activations)
+counts-respawned p cs q target waits j d r (n, e) =
+    (total (record { tasks = 0; activations = 1 }) j, (suc n, ap (λ (m : Meant). m.counts) (rest-respawns p cs n q target waits d r) ∙ ap (plus (counted 0 1)) e), refl)
+
+pub counts-gathered : (p : Program) (cs : Columns) (q : Place) (to : ℕ) (members : List ℕ) (j : Counts) → DoesAt p cs q (Gathers to members) → Each members (HasValue q.futures)
+    → GivesCounts p cs (set_future q to (Some (Number 0))) j → (k : Counts) × GivesCounts p cs q k × (k.activations ≡ length members + j.activations)
+counts-gathered p cs q to members j d r (n, e) =
+    let later = counts-later p cs n (suc n) (set_future q to (Some (Number 0))) j (omega arith) e in (
+      total (record { tasks = 1; activations = length members }) j,
+      (suc n, ap (λ (m : Meant). m.counts) (rest-gathers p cs n q to members d r) ∙ ap (plus (Some (record { tasks = 1; activations = length members }))) later),
+      refl,
+    )
+
+-- the counts of a caller, from those of its call and of what follows with the value
+pub counts-caller : (p : Program) (cs : Columns) (q : Place) (to : ℕ) (call : Call) (waits : Option ℕ) (v : Value) (i j : Counts) → DoesAt p cs q (Calls to call waits) → IsReady q.futures waits
+    → CallGives p cs call v → GivesCounts p cs (entry p call) i → GivesCounts p cs (set_future q to (Some v)) j → (k : Counts) × GivesCounts p cs q k × (k.activations ≡ 1 + i.activations + j.activations)
+counts-caller p cs q to call waits v i j d r (a, e) (b, f) (c, g) =
+    let m = a + b + c in
+    let value = call_value-later p cs a m call v (omega arith) e in
+    let below = counts-later p cs b m (entry p call) i (omega arith) f in
+    let behind_it = counts-later p cs c (suc m) (set_future q to (Some v)) j (omega arith) g in
+    (
+      total (total (record { tasks = 1; activations = 1 }) i) j,
+      (
+        suc m,
+        ap (λ (x : Meant). x.counts) (rest-calls p cs m q to call waits d r)
+        ∙ (ap (λ o. plus (mean p cs m call).counts (rest p cs (suc m) (set_future q to o)).counts) value
+        ∙ (ap (λ o. plus (plus (counted 1 1) o) (rest p cs (suc m) (set_future q to (Some v))).counts) below
+        ∙ ap (plus (Some (total (record { tasks = 1; activations = 1 }) i))) behind_it)),
+      ),
+      refl,
+    )
+
+-- where a task ends, it counts no more
+pub ended-none : (p : Program) (cs : Columns) (q now : Place) (v : Value) → Reaches p cs q now → StopsAt p cs now (Some v) → GivesCounts p cs q no_counts
+ended-none p cs q now v r s = (1, ap (λ (m : Meant). m.counts) (ends-rest p cs 0 q now v r s))

@@ -1,21 +1,22 @@
 -- What the roots of a program mean behind the earlier ones.
-use Rattle.std.proofs.Common.{◌≡◌, ℕ, zero, suc, ◌+◌, ◌<◌, ◌≤◌, Option, Some, None, List, [], ◌∷◌, ◌++◌, take, length, slice_get, refl, sym, ◌∙◌, ap, append_assoc, length-append, arith}
+use Rattle.std.proofs.Common.{◌≡◌, ℕ, zero, suc, ◌+◌, ◌<◌, ◌≤◌, Option, Some, None, List, [], ◌∷◌, ◌++◌, take, length, slice_get, refl, sym, ◌∙◌, ap, subst, append_assoc, length-append, arith}
 use Rattle.std.proofs.lemmas.List.{get_or-take, take-append-le, take-map, length-take-le}
 use Rattle.task_syntax.specs.Places.{Each}
 use Rattle.task_syntax.specs.declared.value.Value.{Value}
 use Rattle.task_syntax.specs.declared.program.Root.{Root as RootLine}
 use Rattle.task_syntax.specs.declared.program.Program.{Program}
 use Rattle.task_syntax.specs.declared.columns.Columns.{Columns}
-use Rattle.task_meaning.specs.Meant.{Meant, Counts, future_at}
+use Rattle.task_meaning.specs.Meant.{Meant, Counts, total, plus, future_at}
 use Rattle.task_meaning.specs.Meaning.{mean}
 use Rattle.task_meaning.specs.Roots.{root_call, values_of, mean_root, mean_roots, mean_roots_from, all_counts, root_value, RootGives}
-use Rattle.task_meaning.proofs.Grows.{Stays-at}
-use Rattle.task_meaning.proofs.RootsFuel.{root_value-stays}
+use Rattle.task_meaning.proofs.Grows.{Stays, Stays-at, AllStay}
+use Rattle.task_meaning.proofs.RootsFuel.{root_value-stays, mean_root-within}
 use Rattle.task_meaning.proofs.Complete.{IsComplete, complete-behind, complete-mean}
 use Rattle.plain_engine.specs.RootEnds.{value_at_end, values_at_ends}
 use Rattle.plain_engine.specs.SoundEnd.{counts_of_first, IsValue}
 use Rattle.plain_engine.specs.declared.end.RootEnd.{RootEnd}
 use Rattle.plain_engine.specs.declared.end.RootEnd.TheVariants.{Value as Ended, Cut}
+use Rattle.plain_engine.proofs.Placed.{line-within}
 use Rattle.plain_engine.proofs.Sums.{Adds, plus-adds, all_counts-adds, length-map, some-same}
 
 append-none : {A : Type 0} (xs : List A) → xs ++ [] ≡ xs
@@ -60,6 +61,21 @@ pub first-more : (p : Program) (cs : Columns) (n at : ℕ) (root : RootLine) (k 
 first-more p cs n at root k e h =
     all_counts-adds (take at (mean_roots p cs n)) (mean_root p cs n (values_of (take at (mean_roots p cs n))) root) k
     (ap all_counts (sym (one-further p cs n [] p.roots at at root e (omega arith))) ∙ h)
+
+counts-snoc : (ms : List Meant) (m : Meant) (a b : Counts) → all_counts ms ≡ Some a → m.counts ≡ Some b → (k : Counts) × (all_counts (ms ++ m ∷ []) ≡ Some k)
+counts-snoc [] m a b e f = (total b (record { tasks = 0; activations = 0 }), ap (λ o. plus o (Some (record { tasks = 0; activations = 0 }))) f)
+counts-snoc (x ∷ xs) m a b e f =
+    let s = plus-adds x.counts (all_counts xs) a e in
+    let (k, g) = counts-snoc xs m s.second b s.is_second f in
+    (total s.first k, ap (λ o. plus o (all_counts (xs ++ m ∷ []))) s.is_first ∙ ap (plus (Some s.first)) g)
+
+-- where the earlier roots are counted, and one behind them, all of these are
+pub counted-up_to : (p : Program) (cs : Columns) (n at : ℕ) (root : RootLine) (a b : Counts) → slice_get p.roots at ≡ Some root → counts_of_first p cs n at ≡ Some a
+    → (mean_root p cs n (values_of (take at (mean_roots p cs n))) root).counts ≡ Some b → (k : Counts) × (counts_of_first p cs n (at + 1) ≡ Some k)
+counted-up_to p cs n at root a b e f g =
+    let before = take at (mean_roots p cs n) in
+    let (k, h) = counts-snoc before (mean_root p cs n (values_of before) root) a b f g in
+    (k, ap all_counts (one-further p cs n [] p.roots at at root e (omega arith)) ∙ h)
 
 length-roots : (p : Program) (cs : Columns) (n : ℕ) (ms : List Meant) (roots : List RootLine) → length (mean_roots_from p cs n ms roots) ≡ length ms + length roots
 length-roots p cs n ms [] = omega arith
@@ -138,3 +154,39 @@ same-earlier p cs n ends k known many counts = same-futures (values_of (take (le
         let (w, g) = value-counted ms (length ends) at k (complete-roots p cs n [] p.roots tt) counts within (omega (arith, within, l, many)) in
         ap (λ (vs : List (Option Value)). future_at vs at) (sym (take-map (λ (m : Meant). m.value) (length ends) ms))
         ∙ (get_or-take (length ends) (values_of ms) at None within ∙ (g ∙ (ap Some (one-root p cs at w v (n, g) (known.give at v e)) ∙ sym f)))
+
+all-stay : (fs gs : List (Option Value)) → length fs ≡ length gs → ((at : ℕ) → at < length fs → Stays (future_at fs at) (future_at gs at)) → AllStay fs gs
+all-stay [] [] e h = tt
+all-stay [] (g ∷ gs) e h = absurd (omega (arith, e))
+all-stay (f ∷ fs) [] e h = absurd (omega (arith, e))
+all-stay (f ∷ fs) (g ∷ gs) e h = (h zero (omega arith), all-stay fs gs (omega (arith, e)) (λ at l. h (suc at) (omega (arith, l))))
+
+first-values : (p : Program) (cs : Columns) (n many at : ℕ) → at < many → future_at (values_of (take many (mean_roots p cs n))) at ≡ root_value p cs n at
+first-values p cs n many at h =
+    ap (λ (vs : List (Option Value)). future_at vs at) (sym (take-map (λ (m : Meant). m.value) many (mean_roots p cs n))) ∙ get_or-take many (values_of (mean_roots p cs n)) at None h
+
+length-first : (p : Program) (cs : Columns) (n many : ℕ) → many ≤ length p.roots → length (values_of (take many (mean_roots p cs n))) ≡ many
+length-first p cs n many h =
+    let l = length-mean_roots p cs n in
+    length-map (λ (m : Meant). m.value) (take many (mean_roots p cs n)) ∙ length-take-le many (mean_roots p cs n) (omega (arith, l, h))
+
+-- more fuel counts the first roots too
+pub counted-later : (p : Program) (cs : Columns) (n m many : ℕ) (k : Counts) → n ≤ m → many ≤ length p.roots → counts_of_first p cs n many ≡ Some k
+    → (j : Counts) × (counts_of_first p cs m many ≡ Some j)
+counted-later p cs n m zero k h l e = (record { tasks = 0; activations = 0 }, refl)
+counted-later p cs n m (suc many) k h l e =
+    let (root, at) = line-within p.roots many (omega (arith, l)) in
+    let next : many + 1 ≡ suc many = omega arith in
+    let a = first-more p cs n many root k at (ap (counts_of_first p cs n) next ∙ e) in
+    let (i, f) = counted-later p cs n m many a.first h (omega (arith, l)) a.is_first in
+    let fs = values_of (take many (mean_roots p cs n)) in
+    let gs = values_of (take many (mean_roots p cs m)) in
+    let here = length-first p cs n many (omega (arith, l)) in
+    let there = length-first p cs m many (omega (arith, l)) in
+    let stay : AllStay fs gs = all-stay fs gs (here ∙ sym there) (λ i w.
+        let in_first : i < many = omega (arith, w, here) in
+        subst (λ o. Stays o (future_at gs i)) (sym (first-values p cs n many i in_first))
+        (subst (λ o. Stays (root_value p cs n i) o) (sym (first-values p cs m many i in_first)) (root_value-stays p cs n m i h))) in
+    let w = mean_root-within p cs n m fs gs root h stay in
+    let (j, g) = counted-up_to p cs m many root i a.second at f (Stays-at _ _ w.counts a.second a.is_second) in
+    (j, ap (counts_of_first p cs m) (sym next) ∙ g)

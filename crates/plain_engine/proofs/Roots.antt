@@ -13,16 +13,16 @@ use Rattle.task_syntax.specs.declared.program.RootArgument.TheVariants as root_a
 use Rattle.task_syntax.specs.declared.program.Root.{Root as RootLine}
 use Rattle.task_syntax.specs.declared.program.Program.{Program}
 use Rattle.task_syntax.specs.declared.columns.Columns.{Columns}
-use Rattle.task_meaning.specs.Meant.{Counts, future_at}
+use Rattle.task_meaning.specs.Meant.{Counts, Meant, total, plus, future_at}
 use Rattle.task_meaning.specs.Frame.{entry, variables_of, variables_in}
-use Rattle.task_meaning.specs.Meaning.{mean, rest, CallGives, CallCounts}
+use Rattle.task_meaning.specs.Meaning.{mean, rest, GivesCounts, CallGives, CallCounts}
 use Rattle.task_meaning.specs.Roots.{root_future, root_call, values_of, mean_root, mean_roots, all_counts, roots_counts, RootGives}
 use Rattle.task_meaning.specs.Runs.{HasValue, IsReady}
 use Rattle.task_meaning.proofs.RootsInTurn.{roots-are_calls}
 use Rattle.plain_engine.specs.Carried.{IsCarried}
 use Rattle.plain_engine.specs.RunEnd.{RunEnd}
 use Rattle.plain_engine.specs.RootEnds.{roots_named, first_without_task, cut_from_root, values_at_ends, end_of}
-use Rattle.plain_engine.specs.SoundEnd.{counts_of_first, OfFirst, IsPastLimit, IsCutFrom, IsSoundRootEnd, IsCutAsNamed, IsValue, IsSoundEnd}
+use Rattle.plain_engine.specs.SoundEnd.{counts_of_first, AreCounted, OfFirst, IsPastLimit, IsCutFrom, IsSoundRootEnd, IsCutAsNamed, IsValue, IsSoundEnd}
 use Rattle.plain_engine.specs.SoFar.{IsSoundSoFar}
 use Rattle.plain_engine.specs.declared.end.TheConstants.{LIMIT}
 use Rattle.plain_engine.specs.declared.end.RootEnd.{RootEnd}
@@ -33,10 +33,11 @@ use Rattle.plain_engine.specs.declared.end.CutFrom.{CutFrom}
 use Rattle.plain_engine.specs.declared.end.CutFrom.TheVariants.{Host, Root, Task}
 use Rattle.plain_engine.proofs.Placed.{line-within}
 use Rattle.plain_engine.proofs.Sums.{first-fewer, counted-more, counted-one, some-same}
-use Rattle.plain_engine.proofs.Calls.{behind-counts}
+use Rattle.plain_engine.proofs.Calls.{behind-counts, ready-behind}
+use Rattle.task_meaning.proofs.GoesOn.{counts-later}
 use Rattle.plain_engine.proofs.Values.{PassesHeld, argument-held}
 use Rattle.plain_engine.proofs.Named.{AllBelow, named-below, get-before, first-stays, IsFound, first-found}
-use Rattle.plain_engine.proofs.Earlier.{first-more, length-mean_roots, AreKnown, value-at, same-earlier}
+use Rattle.plain_engine.proofs.Earlier.{first-more, counted-up_to, counted-later, length-mean_roots, AreKnown, value-at, same-earlier}
 
 -- the end so far with one root more
 abbrev pub ended : List RootEnd → RootEnd → ℕ → RunEnd
@@ -57,7 +58,7 @@ cut-later : (p : Program) (cs : Columns) (ends : List RootEnd) (end : RootEnd) (
 cut-later p cs ends end accepted later at Host h l c = c
 cut-later p cs ends end accepted later at (Root r) h l c = (c.0, (c.1.0, get-before ends end r (omega (arith, c.0, l)) ∙ c.1.1))
 cut-later p cs ends end accepted later at (Task t) h l c =
-    (c.0, c.1, subst (λ xs. Each xs IsValue) (sym (take-append-le at ends (end ∷ []) (omega (arith, l)))) c.2, c.3)
+    c
 
 end-later : (p : Program) (cs : Columns) (ends : List RootEnd) (end x : RootEnd) (accepted later at : ℕ) → accepted ≤ later → later ≤ LIMIT → at < length ends
     → IsSoundRootEnd p cs (so_far ends accepted) at x → IsSoundRootEnd p cs (ended ends end later) at x
@@ -79,9 +80,10 @@ IsCountedNow p cs many accepted = OfFirst p cs many (λ activations. accepted �
 -- one root more
 pub sound-more : (p : Program) (cs : Columns) (ends : List RootEnd) (end : RootEnd) (before accepted : ℕ) (root : RootLine) → IsWellFormed p → slice_get p.roots (length ends) ≡ Some root
     → IsSoundSoFar p cs (so_far ends before) → before ≤ accepted → accepted ≤ LIMIT → IsSoundRootEnd p cs (ended ends end accepted) (length ends) end
-    → cut_from_root end ≡ first_without_task ends (roots_named root) → IsCountedNow p cs (length ends + 1) accepted → Each (ends ++ end ∷ []) IsValue ⊎ (accepted ≡ LIMIT)
+    → cut_from_root end ≡ first_without_task ends (roots_named root) → IsCountedNow p cs (length ends + 1) accepted → (accepted ≡ LIMIT) ⊎ AreCounted p cs (length ends + 1)
+    → Each (ends ++ end ∷ []) IsValue ⊎ (accepted ≡ LIMIT)
     → IsSoundSoFar p cs (ended ends end accepted)
-sound-more p cs ends end before accepted root formed e s rises within sound named counted below = record {
+sound-more p cs ends end before accepted root formed e s rises within sound named counted short below = record {
   within = within;
   roots = λ at x h. elim (get-snoc ends end x at h) [
     | inl g ↦ end-later p cs ends end x before accepted at rises within (slice_get_within ends at x g) (s.roots at x g)
@@ -95,6 +97,7 @@ sound-more p cs ends end before accepted root formed e s rises within sound name
         (λ r f. let same : root ≡ r = some-same (slice_get p.roots (length ends)) root r e f in named ∙ ap (λ (y : RootLine). first_without_task ends (roots_named y)) same)))
   ];
   counted = let l : length (ends ++ end ∷ []) ≡ length ends + 1 = length-append ends (end ∷ []) in subst (λ n. IsCountedNow p cs n accepted) (sym l) counted;
+  short = let l : length (ends ++ end ∷ []) ≡ length ends + 1 = length-append ends (end ∷ []) in subst (λ n. (accepted ≡ LIMIT) ⊎ AreCounted p cs n) (sym l) short;
   below = below;
 }
 
@@ -123,7 +126,7 @@ passed-on p cs ends accepted j tag root formed e s found =
         let past = past-on p cs j (length ends) f.earlier sound.1 in
         sound-more p cs ends (Cut Limit (Root j)) accepted accepted root formed e s (omega arith) s.within
         (sound.0, past, (f.earlier, (f.from, get-before ends (Cut Limit (Root j)) j f.earlier ∙ f.end)))
-        (sym found) (past-counted p cs (length ends) accepted sound.0 past) (inr sound.0)
+        (sym found) (past-counted p cs (length ends) accepted sound.0 past) (inl sound.0) (inr sound.0)
 
 pub none-found : (ends : List RootEnd) (root : RootLine) (o : Option (ℕ × CutTag)) → o ≡ first_without_task ends (roots_named root) → ((x : ℕ × CutTag) → ¬ (o ≡ Some x))
     → first_without_task ends (roots_named root) ≡ None
@@ -145,7 +148,7 @@ refused p cs ends accepted root formed e s none met =
     let a = first-more p cs n (length ends) root k e h in
     let least = one-at_least p cs n (values_of (take (length ends) (mean_roots p cs n))) root a.second a.is_second in
     let l = up n a.first a.is_first in omega (arith, least, l, a.activations) in
-    sound-more p cs ends (Cut Limit Host) accepted accepted root formed e s (omega arith) s.within (met, past, up) (sym none) (past-counted p cs (length ends) accepted met past) (inr met)
+    sound-more p cs ends (Cut Limit Host) accepted accepted root formed e s (omega arith) s.within (met, past, up) (sym none) (past-counted p cs (length ends) accepted met past) (inl met) (inr met)
 
 -- below the limit the ends are values
 pub known : (p : Program) (cs : Columns) (ends : List RootEnd) (accepted : ℕ) → accepted < LIMIT → IsSoundSoFar p cs (so_far ends accepted) → AreKnown p cs ends
@@ -217,6 +220,26 @@ ran p cs ends before accepted value root formed e s none below carried = by valu
     met : OfFirst p cs (length ends) (λ activations. before ≡ activations)
     met n a f = let g = s.counted n a f in omega (arith, g, below)
 
+    -- short of the limit the earlier roots are counted
+    earlier : AreCounted p cs (length ends)
+    earlier = elim s.short [ inl x ↦ absurd (omega (arith, x, below)) | inr x ↦ x ]
+
+    -- and this one too, where its task is
+    counted_all : (j : Counts) → GivesCounts p cs (entry p (root_call (values_at_ends ends) root)) j → AreCounted p cs (length ends + 1)
+    counted_all j (f, g) =
+        let (n, (a, h)) = earlier in
+        let many = slice_get_within p.roots (length ends) root e in
+        let call = root_call (values_at_ends ends) root in
+        let (b, i) = counted-later p cs n (n + f) (length ends) a (omega arith) (omega (arith, many)) h in
+        let same = same-earlier p cs (n + f) ends b k (omega (arith, many)) i in
+        let ready_now = ready p cs ends root.behind k.values (formed.roots (length ends) root e).behind in
+        let one : (mean_root p cs (n + f) (values_of (take (length ends) (mean_roots p cs (n + f)))) root).counts ≡ Some (total (record { tasks = 1; activations = 1 }) j)
+        = ap (λ (fs : List (Option Value)). (mean_root p cs (n + f) fs root).counts) same
+        ∙ (ap (λ (m : Meant). m.counts) (ready-behind root.behind (values_at_ends ends) (mean p cs (n + f) call) ready_now)
+        ∙ ap (plus (Some (record { tasks = 1; activations = 1 }))) (counts-later p cs f (n + f) (entry p call) j (omega arith) g)) in
+        let (d, l) = counted-up_to p cs (n + f) (length ends) root b (total (record { tasks = 1; activations = 1 }) j) e i one in
+        (n + f, (d, l))
+
     -- the roots up to this one count what was accepted before, and what its call counts
     up_to : (P : ℕ → Type 0) → ((activations : ℕ) (q : Counts) → CallCounts p cs (root_call (values_at_ends ends) root) q → activations ≡ before + q.activations → P activations)
         → OfFirst p cs (length ends + 1) P
@@ -233,6 +256,7 @@ ran p cs ends before accepted value root formed e s none below carried = by valu
         let (less, f, u) = counted-one p cs (root_call (values_at_ends ends) root) q g in
         let y = c.ends.1 less (g.0, f) in
         omega (arith, t, u, y)))
+        (elim c.short [ inl x ↦ inl x | inr x ↦ inr (counted_all x.0 x.1) ])
         (inl (values-more ends v k.values))
       where
         values-more : (xs : List RootEnd) (v : Value) → Each xs IsValue → Each (xs ++ Ended v ∷ []) IsValue
@@ -246,13 +270,12 @@ ran p cs ends before accepted value root formed e s none below carried = by valu
           c.ends.0,
           past,
           (
-            omega arith,
             omega (arith, below),
-            subst (λ xs. Each xs IsValue) (sym (take-append-le (length ends) ends (Cut Limit (Task (before + 1)) ∷ []) (omega arith) ∙ take-length ends)) k.values,
+            earlier,
             λ n a f. let g = met n a f in omega (arith, g),
           ),
         )
-        (sym none) (past-counted p cs (length ends) accepted c.ends.0 past) (inr c.ends.0)
+        (sym none) (past-counted p cs (length ends) accepted c.ends.0 past) (inl c.ends.0) (inr c.ends.0)
 
 passed-at : (fs : List (Option Value)) (arguments : List RootArgument) (x : ℕ) (a : RootArgument) → slice_get arguments x ≡ Some a → future_at (map (root_future fs) arguments) x ≡ root_future fs a
 passed-at fs [] x a e = cc
@@ -287,6 +310,7 @@ sound-none p cs = record {
   roots = λ i end e. cc;
   named = λ i end e. cc;
   counted = λ n k e. let s : 0 ≡ k.activations = ap (λ (o : Counts). o.activations) (some-same (Some (record { tasks = 0; activations = 0 })) (record { tasks = 0; activations = 0 }) k refl e) in omega (arith, s);
+  short = inr (0, (record { tasks = 0; activations = 0 }, refl));
   below = inl (λ i end e. cc);
 }
 
@@ -305,6 +329,7 @@ sound-end p cs ends accepted many s = record {
   as_many = many;
   within = s.within;
   counted = subst (λ n. IsCountedNow p cs n accepted) many s.counted;
+  short = subst (λ n. (accepted ≡ LIMIT) ⊎ AreCounted p cs n) many s.short;
   complete = λ n k e h i end g. let w = slice_get_within ends i end g in no-cut p cs (so_far ends accepted) (length p.roots) i n k end (omega (arith, w, many)) e h (s.roots i end g);
   roots = s.roots;
   named = s.named;

@@ -7,12 +7,13 @@ use Rattle.task_syntax.specs.declared.instr.Line.{Line}
 use Rattle.task_syntax.specs.declared.program.Program.{Program}
 use Rattle.task_syntax.specs.declared.columns.Columns.{Columns}
 use Rattle.task_meaning.specs.Meant.{Counts}
-use Rattle.task_meaning.specs.Frame.{Place, Call, code_at, set_future}
+use Rattle.task_meaning.specs.Frame.{Place, Call, code_at, entry, set_future}
 use Rattle.task_meaning.specs.Meaning.{Gives, GivesCounts, CallGives}
 use Rattle.task_meaning.specs.Acts.{act_of, Calls, Gathers}
 use Rattle.task_meaning.specs.Runs.{IsReady}
+use Rattle.task_meaning.specs.Leads.{no_counts}
 use Rattle.plain_engine.specs.Place.{IsPlaced}
-use Rattle.plain_engine.specs.Steps.{DoesAt}
+use Rattle.plain_engine.specs.Steps.{DoesAt, Reaches}
 use Rattle.plain_engine.specs.Steady.{IsSteady}
 use Rattle.plain_engine.specs.Carried.{IsPast, IsCarried, EndsSo}
 use Rattle.plain_engine.specs.Stack.{IsCalling, IsGathering, IsRespawning, IsEnding, IsRefused, EndsWith, IsStanding, GoesOn, called, gathered, respawned, resumed, IsResumed, IsTurn, gathered_end}
@@ -23,7 +24,7 @@ use Rattle.plain_engine.specs.declared.turn.Turn.{Turn}
 use Rattle.plain_engine.proofs.Sums.{some-same}
 use Rattle.plain_engine.proofs.Resume.{all-later, resumed-placed, resumed-steady}
 use Rattle.plain_engine.proofs.Gather.{Gathered, fits, meets, gathered as gathered_by, gathered-stays}
-use Rattle.plain_engine.proofs.Calls.{reached-gives, respawned-gives, gathered-gives, gather-counts, resumed-gives, one-value, reached-counts, caller-counts, respawn-counts, starts-counts, ended-counts, ended-gives}
+use Rattle.plain_engine.proofs.Calls.{reached-gives, respawned-gives, gathered-gives, gather-counts, resumed-gives, one-value, reached-counts, caller-counts, respawn-counts, starts-counts, ended-counts, ended-gives, counts-reached, counts-respawned, counts-gathered, counts-caller, ended-none}
 
 -- the call for which a caller waits
 pub record WaitsFor (p : Program) (cs : Columns) (w : Waiting) : Type 0 where
@@ -73,11 +74,36 @@ pub record Left (p : Program) (cs : Columns) (last : ℕ) (ws : List Waiting) (q
 abbrev pub IsCountedOn : Program → Columns → Place → ℕ → List Waiting → Place → ℕ → Type 0
 IsCountedOn p cs first before ws q n = (k : Counts) → GivesCounts p cs first k → Left p cs (before + k.activations) ws q n ⊎ ((n ≡ LIMIT) × IsPast before k)
 
+-- Where the second place is counted, so is the first, and it comes to as many: m were accepted at the first, and n at the second.
+abbrev pub Brings : Program → Columns → Place → ℕ → Place → ℕ → Type 0
+Brings p cs q m now n = (j : Counts) → GivesCounts p cs now j → (k : Counts) × GivesCounts p cs q k × (m + k.activations ≡ n + j.activations)
+
+brings-on : (p : Program) (cs : Columns) (a b c : Place) (k m n : ℕ) → Brings p cs a k b m → Brings p cs b m c n → Brings p cs a k c n
+brings-on p cs a b c k m n f g j h =
+    let (i, x, e) = g j h in
+    let (l, y, d) = f i x in (l, y, d ∙ e)
+
+-- what a task counts that comes to a place on its own
+brings-reached : (p : Program) (cs : Columns) (q now : Place) (n : ℕ) → Reaches p cs q now → Brings p cs q n now n
+brings-reached p cs q now n r j g = (j, counts-reached p cs q now j r g, refl)
+
+-- so along the stack, from the task on top to the outermost: each caller stands at its spawn, where so many were accepted
+abbrev pub AllBring : Program → Columns → Place → ℕ → List Waiting → Place → ℕ → Type 0
+AllBring p cs first before [] q n = Brings p cs first before q n
+AllBring p cs first before (w ∷ ws) q n =
+    (for : WaitsFor p cs w) × ((begun : ℕ) × Brings p cs (entry p for.call) (begun + 1) q n × AllBring p cs first before ws w.running begun)
+
+all-bring : (p : Program) (cs : Columns) (first : Place) (before : ℕ) (ws : List Waiting) (q now : Place) (n m : ℕ) → Brings p cs q n now m → AllBring p cs first before ws q n
+    → AllBring p cs first before ws now m
+all-bring p cs first before [] q now n m b h = brings-on p cs first q now before n m h b
+all-bring p cs first before (w ∷ ws) q now n m b (for, (begun, h, more)) = (for, (begun, brings-on p cs (entry p for.call) q now (begun + 1) n m h b, more))
+
 -- the run of a task that began when so many were accepted
 pub record IsUnderWay (p : Program) (cs : Columns) (first : Place) (before : ℕ) (s : Stack) (n : ℕ) : Type 0 where
   pub standing : IsStanding p cs s n
   pub sound : IsSound p cs first s.callers s.top
   pub counted : IsCountedOn p cs first before s.callers s.top n
+  pub short : (n ≡ LIMIT) ⊎ AllBring p cs first before s.callers s.top n
   pub rises : before ≤ n
   pub within : n ≤ LIMIT
 
@@ -86,6 +112,7 @@ begins p cs first n placed steady within = record {
   standing = record { placed = placed; steady = steady; waiting = tt };
   sound = λ v g. g;
   counted = λ k g. inl (record { top = k; counts = g; comes = refl });
+  short = inr (λ j g. (j, g, refl));
   rises = omega arith;
   within = within;
 }
@@ -123,9 +150,21 @@ goes-called p cs first before n m s caller callee to u c =
         sound-before p cs first s.callers s.top caller (λ v g. reached-gives p cs s.top caller v c.reaches g) u.sound,
       );
       counted = λ k g. elim (u.counted k g) [ inl l ↦ inl (calls-left p cs (before + k.activations) s.callers s.top caller callee n m to c l) | inr x ↦ absurd (omega (arith, x.0, c.below)) ];
+      short = elim u.short [
+        | inl x ↦ absurd (omega (arith, x, c.below))
+        | inr b ↦ inr (
+          record { call = c.call; waits = c.waits; does = c.does; ready = c.ready },
+          (n, λ j g. (j, subst (λ (x : Place). GivesCounts p cs x j) c.is_callee g, omega (arith, c.counted)), all-bring p cs first before s.callers s.top caller n n (brings-reached p cs s.top caller n c.reaches) b),
+        )
+      ];
       rises = omega (arith, u.rises, up);
       within = in_limit;
     }
+
+respawn-brings : (p : Program) (cs : Columns) (top next : Place) (n m : ℕ) → IsRespawning p cs top n m next → Brings p cs top n next m
+respawn-brings p cs top next n m c j g =
+    let (k, x, e) = counts-respawned p cs c.at c.target c.waits j c.does c.ready (subst (λ (x : Place). GivesCounts p cs x j) c.is_next g) in
+    (k, counts-reached p cs top c.at k c.reaches x, omega (arith, e, c.counted))
 
 respawn-left : (p : Program) (cs : Columns) (last : ℕ) (ws : List Waiting) (top next : Place) (n m : ℕ) → IsRespawning p cs top n m next → Left p cs last ws top n → Left p cs last ws next m
 respawn-left p cs last ws top next n m c l =
@@ -144,6 +183,10 @@ goes-respawned p cs first before n m s next u c =
       sound = sound-before p cs first s.callers s.top next (λ v g. reached-gives p cs s.top c.at v c.reaches
           (respawned-gives p cs c.at c.target c.waits v c.does c.ready (subst (λ (x : Place). Gives p cs x v) c.is_next g))) u.sound;
       counted = λ k g. elim (u.counted k g) [ inl l ↦ inl (respawn-left p cs (before + k.activations) s.callers s.top next n m c l) | inr x ↦ absurd (omega (arith, x.0, c.below)) ];
+      short = elim u.short [
+        | inl x ↦ absurd (omega (arith, x, c.below))
+        | inr b ↦ inr (all-bring p cs first before s.callers s.top next n m (respawn-brings p cs s.top next n m c) b)
+      ];
       rises = omega (arith, u.rises, up);
       within = in_limit;
     }
@@ -163,6 +206,15 @@ gather-left p cs last ws top next n m c l = by (gathered_by n (length c.members)
       let up = comes-up p cs last ws (n + l.top.activations) l.comes in
       inr (c.counted ∙ h, omega (arith, least, up, past))
 
+gather-brings : (p : Program) (cs : Columns) (top next : Place) (n m : ℕ) → IsGathering p cs top n m next → (m ≡ LIMIT) ⊎ Brings p cs top n next m
+gather-brings p cs top next n m c = by (gathered_by n (length c.members)) where
+  by : Gathered n (length c.members) → (m ≡ LIMIT) ⊎ Brings p cs top n next m
+  by (fits e h) = inr (λ j g.
+      let same : next ≡ set_future c.at c.to (Some (Number 0)) = c.is_next ∙ ap (λ o. set_future c.at c.to o) e in
+      let (k, x, d) = counts-gathered p cs c.at c.to c.members j c.does c.ready (subst (λ (x : Place). GivesCounts p cs x j) same g) in
+      (k, counts-reached p cs top c.at k c.reaches x, omega (arith, d, c.counted, h)))
+  by (meets e past h) = inl (c.counted ∙ h)
+
 goes-gathered : (p : Program) (cs : Columns) (first : Place) (before n m : ℕ) (s : Stack) (next : Place) → IsUnderWay p cs first before s n → IsGathering p cs s.top n m next
     → IsUnderWay p cs first before (record { top = next; callers = s.callers }) m
 goes-gathered p cs first before n m s next u c =
@@ -177,6 +229,10 @@ goes-gathered p cs first before n m s next u c =
         | inl l ↦ elim (gather-left p cs (before + k.activations) s.callers s.top next n m c l) [ inl x ↦ inl x | inr x ↦ inr x ]
         | inr x ↦ absurd (omega (arith, x.0, c.below))
       ];
+      short = elim u.short [
+        | inl x ↦ absurd (omega (arith, x, c.below))
+        | inr b ↦ elim (gather-brings p cs s.top next n m c) [ inl x ↦ inl x | inr g ↦ inr (all-bring p cs first before s.callers s.top next n m g b) ]
+      ];
       rises = omega (arith, u.rises, up);
       within = in_limit;
     }
@@ -190,6 +246,14 @@ refused-past p cs first before n s u r k g = elim (u.counted k g) [
       omega (arith, one, r.starts, up, r.met)
   | inr x ↦ x.1
 ]
+
+-- what a caller counts, where its call ended with this value
+resume-brings : (p : Program) (cs : Columns) (n begun : ℕ) (w : Waiting) (top : Place) (v : Value) (c : WaitsFor p cs w) → CallGives p cs c.call v → IsEnding p cs top v
+    → Brings p cs (entry p c.call) (begun + 1) top n → Brings p cs w.running begun (set_future w.running w.to (Some v)) n
+resume-brings p cs n begun w top v c gives e b j g =
+    let (i, x, d) = b no_counts (ended-none p cs top e.at v e.reaches e.stops) in
+    let (k, y, f) = counts-caller p cs w.running w.to c.call c.waits v i j c.does c.ready gives x g in
+    (k, y, omega (arith, d, f))
 
 -- the counts that are left for a caller whose call gave this value
 resume-left : (p : Program) (cs : Columns) (last n : ℕ) (w : Waiting) (ws : List Waiting) (top : Place) (v : Value) (c : WaitsFor p cs w) → CallGives p cs c.call v → IsEnding p cs top v
@@ -215,6 +279,12 @@ goes-resumed p cs first before n top w ws (Some v) formed u e =
       sound = sound-before p cs first ws w.running (set_future w.running w.to (Some v)) (λ x g. resumed-gives p cs w.running w.to c.call c.waits (Some v) x c.does c.ready
           (λ y h. let same : v ≡ y = cc in subst (λ z. CallGives p cs c.call z) same gives) g) u.sound.2;
       counted = λ k g. elim (u.counted k g) [ inl l ↦ inl (resume-left p cs (before + k.activations) n w ws top v c gives e l) | inr x ↦ inr x ];
+      short = elim u.short [
+        | inl x ↦ inl x
+        | inr b ↦ let (for, (begun, h, more)) = b in
+            let given = subst (λ (x : Call). CallGives p cs x v) (waits-same p cs w c for) gives in
+            inr (all-bring p cs first before ws w.running (set_future w.running w.to (Some v)) begun n (resume-brings p cs n begun w top v for given e h) more)
+      ];
       rises = u.rises;
       within = u.within;
     }
@@ -223,6 +293,7 @@ goes-resumed p cs first before n top w ws None formed u e =
     record {
       standing = record { placed = resumed-placed p cs w n None formed u.standing.waiting.0; steady = resumed-steady p cs w n None formed u.standing.waiting.0 (inr e.met); waiting = u.standing.waiting.1 };
       sound = sound-before p cs first ws w.running (set_future w.running w.to None) (λ x g. resumed-gives p cs w.running w.to c.call c.waits None x c.does c.ready (λ y h. cc) g) u.sound.2;
+      short = inl e.met;
       counted = λ k g. inr (e.met, refused-past p cs first before n (record { top = top; callers = w ∷ ws }) u e k g);
       rises = u.rises;
       within = u.within;
@@ -251,11 +322,19 @@ over-with p cs first before n top (Some v) u e = (
 )
 over-with p cs first before n top None u e = (e.met, λ k g. refused-past p cs first before n (record { top = top; callers = [] }) u e k g)
 
+over-short : (p : Program) (cs : Columns) (first : Place) (before n : ℕ) (top : Place) (end : Option Value) → IsUnderWay p cs first before (record { top = top; callers = [] }) n → EndsWith p cs top n end
+    → (n ≡ LIMIT) ⊎ ((k : Counts) × GivesCounts p cs first k × (n ≡ before + k.activations))
+over-short p cs first before n top (Some v) u e = elim u.short [
+  | inl x ↦ inl x
+  | inr b ↦ let (k, g, d) = b no_counts (ended-none p cs top e.at v e.reaches e.stops) in inr (k, g, omega (arith, d))
+]
+over-short p cs first before n top None u e = inl e.met
+
 pub over : (p : Program) (cs : Columns) (first : Place) (before n m : ℕ) (s : Stack) (end : Option Value) → IsUnderWay p cs first before s n → EndsWith p cs s.top n end → s.callers ≡ [] → m ≡ n → IsCarried p cs first before m end
 over p cs first before n m s end u e callers same =
     let Q : List Waiting → Type 0 = λ x. IsUnderWay p cs first before (record { top = s.top; callers = x }) n in
     let N : ℕ → Type 0 = λ x. IsCarried p cs first before x end in
-    subst N (sym same) (record { within = u.within; rises = u.rises; ends = over-with p cs first before n s.top end (subst Q callers u) e })
+    subst N (sym same) (record { within = u.within; rises = u.rises; ends = over-with p cs first before n s.top end (subst Q callers u) e; short = over-short p cs first before n s.top end (subst Q callers u) e })
 
 -- each turn leaves fewer
 pub fewer : (p : Program) (cs : Columns) (n m : ℕ) (s next : Stack) → GoesOn p cs s n next m → n ≤ LIMIT → 2 * (LIMIT - m) + length next.callers < 2 * (LIMIT - n) + length s.callers

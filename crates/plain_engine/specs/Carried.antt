@@ -1,5 +1,5 @@
 -- What comes of a task that is carried to its end, where so many activations were accepted before.
-use Rattle.std.specs.Prelude.{◌≡◌, ℕ, ◌+◌, ◌<◌, ◌≤◌, min, Option, Some, None}
+use Rattle.std.specs.Prelude.{◌≡◌, ℕ, ◌+◌, ◌<◌, ◌≤◌, ◌⊎◌, min, Option, Some, None}
 use Rattle.task_syntax.specs.declared.value.Value.{Value}
 use Rattle.task_syntax.specs.declared.program.Program.{Program}
 use Rattle.task_syntax.specs.declared.columns.Columns.{Columns}
@@ -25,3 +25,5 @@ pub record IsCarried (p : Program) (c : Columns) (q : Place) (before accepted : 
   pub within : accepted ≤ LIMIT
   pub rises : before ≤ accepted
   pub ends : EndsSo p c q before accepted end
+  -- short of the limit nothing was refused, so the task counts what was accepted
+  pub short : (accepted ≡ LIMIT) ⊎ ((k : Counts) × GivesCounts p c q k × (accepted ≡ before + k.activations))

@@ -1,5 +1,5 @@
 -- Which end of a run is sound for a program with columns.
-use Rattle.std.specs.Prelude.{◌≡◌, ℕ, ◌+◌, ◌<◌, ◌≤◌, min, Option, Some, List, length, take, slice_get}
+use Rattle.std.specs.Prelude.{◌≡◌, ℕ, ◌+◌, ◌<◌, ◌≤◌, ◌⊎◌, min, Option, Some, List, length, take, slice_get}
 use Rattle.task_syntax.specs.Places.{Each, EachAt}
 use Rattle.task_syntax.specs.declared.program.Root.{Root as RootLine}
 use Rattle.task_syntax.specs.declared.program.Program.{Program}
@@ -22,6 +22,10 @@ most_activations = 1000000
 abbrev pub counts_of_first : Program → Columns → ℕ → ℕ → Option Counts
 counts_of_first p c n many = all_counts (take many (mean_roots p c n))
 
+-- the meaning counts the first roots together
+abbrev pub AreCounted : Program → Columns → ℕ → Type 0
+AreCounted p c many = (n : ℕ) × ((k : Counts) × (counts_of_first p c n many ≡ Some k))
+
 -- P holds of the activations of the first roots, where the meaning gives them counts
 abbrev pub OfFirst : Program → Columns → ℕ → (ℕ → Type 0) → Type 0
 OfFirst p c many P = (n : ℕ) (k : Counts) → counts_of_first p c n many ≡ Some k → P k.activations
@@ -35,12 +39,11 @@ IsValue (Value v) = Unit {0}
 IsValue (Cut tag from) = ⊥
 
 -- A root is cut from outside where the roots before it take up the limit; from an earlier root that was cut by the limit
--- itself; or from its own task, where the roots before it have values, and their activations do not take up the limit:
--- the task has the next number.
+-- itself; or from its own task, where the meaning counts the roots before it short of the limit: the task has the next number.
 abbrev pub IsCutFrom : Program → Columns → RunEnd → ℕ → CutFrom → Type 0
 IsCutFrom p c e at Host = OfFirst p c at (λ activations. most_activations ≤ activations)
 IsCutFrom p c e at (Root r) = (r < at) × ((from : CutFrom) × (slice_get e.roots r ≡ Some (Cut Limit from)))
-IsCutFrom p c e at (Task t) = (0 < t) × (t ≤ most_activations) × Each (take at e.roots) IsValue × OfFirst p c at (λ activations. t ≡ activations + 1)
+IsCutFrom p c e at (Task t) = (t ≤ most_activations) × AreCounted p c at × OfFirst p c at (λ activations. t ≡ activations + 1)
 
 -- a root's value is the one of the meaning; a root is cut only by the limit, and only where that is met
 abbrev pub IsSoundRootEnd : Program → Columns → RunEnd → ℕ → RootEnd → Type 0
@@ -57,6 +60,8 @@ pub record IsSoundEnd (p : Program) (c : Columns) (e : RunEnd) : Type 0 where
   pub within : e.accepted ≤ most_activations
   -- the activations that the meaning counts were accepted, up to the limit
   pub counted : OfFirst p c (length p.roots) (λ activations. e.accepted ≡ min activations most_activations)
+  -- short of the limit the meaning counts all roots
+  pub short : (e.accepted ≡ most_activations) ⊎ AreCounted p c (length p.roots)
   -- where they are within the limit each root has its value
   pub complete : OfFirst p c (length p.roots) (λ activations. activations ≤ most_activations → Each e.roots IsValue)
   pub roots : EachAt e.roots (IsSoundRootEnd p c e)
