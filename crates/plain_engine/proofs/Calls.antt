@@ -201,15 +201,14 @@ counts-caller p cs q to call waits v i j d r (a, e) (b, f) (c, g) =
     let m = a + b + c in
     let value = call_value-later p cs a m call v (omega arith) e in
     let below = counts-later p cs b m (entry p call) i (omega arith) f in
-    let behind_it = counts-later p cs c (suc m) (set_future q to (Some v)) j (omega arith) g in
-    (
+    let behind_it = counts-later p cs c (suc m) (set_future q to (Some v)) j (omega arith) g in (
       total (total (record { tasks = 1; activations = 1 }) i) j,
       (
         suc m,
         ap (λ (x : Meant). x.counts) (rest-calls p cs m q to call waits d r)
-        ∙ (ap (λ o. plus (mean p cs m call).counts (rest p cs (suc m) (set_future q to o)).counts) value
-        ∙ (ap (λ o. plus (plus (counted 1 1) o) (rest p cs (suc m) (set_future q to (Some v))).counts) below
-        ∙ ap (plus (Some (total (record { tasks = 1; activations = 1 }) i))) behind_it)),
+            ∙ (ap (λ o. plus (mean p cs m call).counts (rest p cs (suc m) (set_future q to o)).counts) value
+            ∙ (ap (λ o. plus (plus (counted 1 1) o) (rest p cs (suc m) (set_future q to (Some v))).counts) below
+            ∙ ap (plus (Some (total (record { tasks = 1; activations = 1 }) i))) behind_it)),
       ),
       refl,
     )

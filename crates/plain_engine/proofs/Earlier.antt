@@ -184,9 +184,8 @@ counted-later p cs n m (suc many) k h l e =
     let here = length-first p cs n many (omega (arith, l)) in
     let there = length-first p cs m many (omega (arith, l)) in
     let stay : AllStay fs gs = all-stay fs gs (here ∙ sym there) (λ i w.
-        let in_first : i < many = omega (arith, w, here) in
-        subst (λ o. Stays o (future_at gs i)) (sym (first-values p cs n many i in_first))
-        (subst (λ o. Stays (root_value p cs n i) o) (sym (first-values p cs m many i in_first)) (root_value-stays p cs n m i h))) in
+    let in_first : i < many = omega (arith, w, here) in
+    subst (λ o. Stays o (future_at gs i)) (sym (first-values p cs n many i in_first))
+    (subst (λ o. Stays (root_value p cs n i) o) (sym (first-values p cs m many i in_first)) (root_value-stays p cs n m i h))) in
     let w = mean_root-within p cs n m fs gs root h stay in
-    let (j, g) = counted-up_to p cs m many root i a.second at f (Stays-at _ _ w.counts a.second a.is_second) in
-    (j, ap (counts_of_first p cs m) (sym next) ∙ g)
+    subst (λ x. (j : Counts) × (counts_of_first p cs m x ≡ Some j)) next (counted-up_to p cs m many root i a.second at f (Stays-at _ _ w.counts a.second a.is_second))

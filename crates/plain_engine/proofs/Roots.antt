@@ -1,7 +1,6 @@
 -- The roots of a program, one after another.
 use Rattle.std.proofs.Common.{◌≡◌, ℕ, zero, suc, ◌+◌, ◌<◌, ◌≤◌, min, Option, Some, None, List, [], ◌∷◌, ◌++◌, map, take, length, slice_get, IfSome, refl, sym, ◌∙◌, ap, subst, ◌⊎◌, inl, inr, arith, length-append}
-use Rattle.std.proofs.lemmas.List.{take-append-le, take-take}
-use Rattle.std.proofs.Math.Seq.{take-length}
+use Rattle.std.proofs.lemmas.List.{take-take}
 use Rattle.std.proofs.lemmas.Option.{slice_get_within}
 use Rattle.task_syntax.specs.Places.{Each}
 use Rattle.task_syntax.specs.Form.{IsWellFormed, IsFormedRootArgument}
@@ -16,7 +15,7 @@ use Rattle.task_syntax.specs.declared.columns.Columns.{Columns}
 use Rattle.task_meaning.specs.Meant.{Counts, Meant, total, plus, future_at}
 use Rattle.task_meaning.specs.Frame.{entry, variables_of, variables_in}
 use Rattle.task_meaning.specs.Meaning.{mean, rest, GivesCounts, CallGives, CallCounts}
-use Rattle.task_meaning.specs.Roots.{root_future, root_call, values_of, mean_root, mean_roots, all_counts, roots_counts, RootGives}
+use Rattle.task_meaning.specs.Roots.{root_future, root_call, values_of, mean_root, mean_roots, all_counts, RootGives}
 use Rattle.task_meaning.specs.Runs.{HasValue, IsReady}
 use Rattle.task_meaning.proofs.RootsInTurn.{roots-are_calls}
 use Rattle.plain_engine.specs.Carried.{IsCarried}
@@ -37,7 +36,7 @@ use Rattle.plain_engine.proofs.Calls.{behind-counts, ready-behind}
 use Rattle.task_meaning.proofs.GoesOn.{counts-later}
 use Rattle.plain_engine.proofs.Values.{PassesHeld, argument-held}
 use Rattle.plain_engine.proofs.Named.{AllBelow, named-below, get-before, first-stays, IsFound, first-found}
-use Rattle.plain_engine.proofs.Earlier.{first-more, counted-up_to, counted-later, length-mean_roots, AreKnown, value-at, same-earlier}
+use Rattle.plain_engine.proofs.Earlier.{first-more, counted-up_to, counted-later, AreKnown, value-at, same-earlier}
 
 -- the end so far with one root more
 abbrev pub ended : List RootEnd → RootEnd → ℕ → RunEnd

@@ -1,13 +1,14 @@
 ghost use Rattle.std.specs.Prelude.{◌≡◌, ◌<◌, ◌+◌, cond, length};
 ghost use Rattle.task_meaning.specs.Meant.{future_at};
 ghost use Rattle.task_meaning.specs.Acts.{Steps, steps_with};
-ghost use Rattle.task_meaning.specs.Frame.{go_on as at_next_line, jump as at_line, set_future as with_future, set_number as with_number};
-ghost use Rattle.plain_engine.specs.Place.{Fits};
+ghost use Rattle.task_meaning.specs.Arithmetic.{compares, computed};
+ghost use Rattle.task_meaning.specs.Frame.{operand, go_on as at_next_line, jump as at_line, set_future as with_future, set_number as with_number};
+ghost use Rattle.plain_engine.specs.Place.{Fits, IsOperandIn};
 ghost use Rattle.plain_engine.specs.Steps.{act_at, IsStep, read_of};
 
 use crate::arithmetic::{compare, compute, number_or, read};
 use crate::running::Running;
-use task_syntax::{Columns, Instr, Trap, Value};
+use task_syntax::{Columns, Instr, MathOp, Operand, Relation, Trap, Value};
 
 /// What comes of one instruction.
 #[derive(Debug, Clone, Copy, PartialEq, Eq)]
@@ -61,6 +62,35 @@ fn jump_if(running: &mut Running, holds: bool, target: u16) -> Step
     Step::Moved
 }
 
+/// Puts what an operation on two numbers gives into a variable.
+fn calculate(running: &mut Running, op: MathOp, to: u16, left: Operand, right: Operand) -> Step
+    requires line { running.old.at + 1 < 65536 }
+    requires variable { to < length running.old.numbers }
+    requires left { IsOperandIn (length running.old.numbers) left }
+    requires right { IsOperandIn (length running.old.numbers) right }
+    ensures { IsStep (steps_with (computed op (operand running.old.numbers left) (operand running.old.numbers right)) (with_number running.old to)) running.old result running.new }
+{
+    let value = compute(
+        op,
+        read(running.numbers(), left),
+        read(running.numbers(), right),
+    );
+    put(running, to, value)
+}
+
+/// The comparison holds of what two operands stand for.
+fn holds(running: &Running, relation: Relation, left: Operand, right: Operand) -> bool
+    requires left { IsOperandIn (length running.now.numbers) left }
+    requires right { IsOperandIn (length running.now.numbers) right }
+    ensures { result ≡ compares relation (operand running.now.numbers left) (operand running.now.numbers right) }
+{
+    compare(
+        relation,
+        read(running.numbers(), left),
+        read(running.numbers(), right),
+    )
+}
+
 /// Names a future by a variable and goes on.
 fn refer(running: &mut Running, to: u16, future: Option<Value>) -> Step
     requires line { running.old.at + 1 < 65536 }
@@ -86,26 +116,15 @@ pub fn carry_out(instr: &Instr, columns: &Columns, running: &mut Running) -> Ste
             to,
             left,
             right,
-        } => {
-            let value = compute(
-                *op,
-                read(running.numbers(), *left),
-                read(running.numbers(), *right),
-            );
-            put(running, *to, value)
-        }
+        } => calculate(running, *op, *to, *left, *right),
         Instr::If {
             relation,
             left,
             right,
             target,
         } => {
-            let holds = compare(
-                *relation,
-                read(running.numbers(), *left),
-                read(running.numbers(), *right),
-            );
-            jump_if(running, holds, *target)
+            let jumps = holds(running, *relation, *left, *right);
+            jump_if(running, jumps, *target)
         }
         Instr::Goto { target } => jump_if(running, true, *target),
         Instr::Label { .. } => jump_if(running, false, 0),

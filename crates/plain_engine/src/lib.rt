@@ -15,6 +15,7 @@ mod run_root;
 mod running;
 mod stack;
 mod start;
+mod taskless;
 #[cfg(test)]
 mod tests;
 mod turn;

@@ -4,7 +4,7 @@ use Rattle.std.specs.Option.{option_or}
 use Rattle.task_syntax.specs.declared.program.RootArgument.{RootArgument}
 use Rattle.plain_engine.specs.RootEnds.{root_passed, root_waited, first_without_task}
 use Rattle.plain_engine.proofs.Named.{first-append}
-use Rattle.plain_engine.proofs.run_root.first_taskless.Goals as goal
+use Rattle.plain_engine.proofs.taskless.first_taskless.Goals as goal
 
 pub returns : goal.returns
 returns c =
