@@ -7,7 +7,7 @@ use Rattle.task_syntax.specs.Names.{IsName}
 use Rattle.task_syntax.specs.Places.{EachAt, AllDiffer, IsFutureAt, instr_at}
 use Rattle.task_syntax.specs.Form.{IsWellFormed, IsFormedKind, IsFormedState, IsFormedInstr, IsFormedArgument, IsFormedRoot, IsFormedRootArgument, IsLabel, Leaves, Ends, labels_of, lines_of}
 use Rattle.task_syntax.specs.declared.instr.Instr.{Instr}
-use Rattle.task_syntax.specs.declared.instr.Instr.TheVariants.{Label, Done, Again}
+use Rattle.task_syntax.specs.declared.instr.Instr.TheVariants.{Done, Again}
 use Rattle.task_syntax.specs.declared.instr.Operand.TheVariants.{Variable}
 use Rattle.task_syntax.specs.declared.value.Priority.TheVariants.{Regular}
 use Rattle.task_syntax.specs.declared.instr.Line.{Line}

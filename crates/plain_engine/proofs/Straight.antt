@@ -1,8 +1,8 @@
 -- Where no line jumps and none is a label, all ways to a place leave the same facts: so validity is seen by computing.
-use Rattle.std.proofs.Common.{◌≡◌, ℕ, zero, suc, ◌+◌, Bool, true, false, ◌&&◌, Option, Some, None, List, [], ◌∷◌, slice_get, refl, sym, ◌∙◌, ap, subst, arith}
+use Rattle.std.proofs.Common.{◌≡◌, ℕ, zero, suc, ◌+◌, Bool, true, false, Some, List, [], ◌∷◌, slice_get, refl, sym, ◌∙◌, ap, subst, arith}
 use Rattle.std.specs.List.{list_all}
 use Rattle.std.specs.Option.{option_map}
-use Rattle.task_syntax.specs.Places.{Each, instr_at}
+use Rattle.task_syntax.specs.Places.{Each}
 use Rattle.task_syntax.specs.Facts.{Facts, has, members_of, after, at_start}
 use Rattle.task_syntax.specs.Form.{IsLabel}
 use Rattle.task_syntax.specs.Valid.{Way, starts, unreached, goes_on, jumps, JumpsTo, Held, Settled, Member, IsSoundInstr, IsSoundState}

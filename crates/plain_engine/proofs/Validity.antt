@@ -1,7 +1,7 @@
 -- The small programs are valid.
-use Rattle.std.proofs.Common.{◌≡◌, ℕ, zero, suc, ◌<◌, ◌≤◌, true, Option, Some, None, List, [], ◌∷◌, length, slice_get, refl, sym, ap, subst, inl, inr, lit≤}
+use Rattle.std.proofs.Common.{◌≡◌, ℕ, zero, suc, ◌≤◌, true, Option, Some, None, List, [], ◌∷◌, length, slice_get, refl, sym, ap, subst, inl, inr, lit≤}
 use Rattle.task_syntax.specs.Facts.{has}
-use Rattle.task_syntax.specs.Valid.{Agrees, EachSettledArgument, SpawnsSoundly, RespawnsSoundly, IsSoundInstr, IsSoundState, IsSoundKind, IsSoundRoot, IsBehind, IsValid, HeldArgument, WillSettleArgument, Held, WillSettle, sort_of, sort_of_root}
+use Rattle.task_syntax.specs.Valid.{Agrees, EachSettledArgument, SpawnsSoundly, RespawnsSoundly, IsSoundState, IsSoundKind, IsSoundRoot, IsBehind, IsValid, HeldArgument, WillSettleArgument, Held, WillSettle, sort_of, sort_of_root}
 use Rattle.task_syntax.specs.declared.instr.Operand.TheVariants.{Variable}
 use Rattle.task_syntax.specs.declared.instr.Argument.{Argument}
 use Rattle.task_syntax.specs.declared.instr.Argument.TheVariants as argument
