@@ -1,6 +1,7 @@
 pub mod Appended
-pub mod Followed
 pub mod Told
 pub mod Reported
-pub mod Prepared
+pub mod Plans
+pub mod Causes
+pub mod Ends
 pub mod Statuses

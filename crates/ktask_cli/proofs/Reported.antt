@@ -1,5 +1,5 @@
 -- The lines of a report, from a root on.
-use Rattle.std.proofs.Common.{◌≡◌, ℕ, zero, suc, ◌+◌, ◌<◌, ◌≤◌, Bool, true, false, not, ◌&&◌, nat_le, List, [], ◌∷◌, ◌++◌, length, get_or, drop, drop-cons, Option, Some, None, slice_get, refl, ap, sym, ◌∙◌, subst, add-one, append_assoc, arith}
+use Rattle.std.proofs.Common.{◌≡◌, ℕ, zero, suc, ◌+◌, ◌<◌, ◌≤◌, Bool, true, false, not, ◌&&◌, nat_le, List, [], ◌∷◌, ◌++◌, length, get_or, drop, drop-cons, Option, Some, None, slice_get, refl, ap, sym, ◌∙◌, subst, add-one, append_assoc, length-append, arith}
 use Rattle.std.proofs.lemmas.List.{drop_all}
 use Rattle.std.proofs.lemmas.Option.{get_or_from_slice_get, slice_get_within, slice_get_read}
 use Rattle.std.specs.Io.KnownBytes.{Appends}
@@ -53,10 +53,11 @@ one_line_more old middle new whole line rest so_far p = record {
 pub part_of_line : (old middle new : Option (List ℕ)) (whole line rest : List ℕ) → AppendsAllBut old middle whole (line ++ rest) → AppendsPrefix middle new line → AppendsPrefix old new whole
 part_of_line old middle new whole line rest so_far p = (
   p.0 ++ rest,
+  (let more : length (p.0 ++ rest) ≡ length p.0 + length rest = length-append p.0 rest in omega (arith, more, p.1)),
   record {
-    front = so_far.front ++ p.1.front;
-    split = so_far.split ∙ (ap (λ z. so_far.front ++ (z ++ rest)) p.1.split ∙ (ap (λ z. so_far.front ++ z) (append_assoc p.1.front p.0 rest) ∙ sym (append_assoc so_far.front p.1.front (p.0 ++ rest))));
-    taken = appends_then old middle new so_far.front p.1.front so_far.taken p.1.taken;
+    front = so_far.front ++ p.2.front;
+    split = so_far.split ∙ (ap (λ z. so_far.front ++ (z ++ rest)) p.2.split ∙ (ap (λ z. so_far.front ++ z) (append_assoc p.2.front p.0 rest) ∙ sym (append_assoc so_far.front p.2.front (p.0 ++ rest))));
+    taken = appends_then old middle new so_far.front p.2.front so_far.taken p.2.taken;
   },
 )
 

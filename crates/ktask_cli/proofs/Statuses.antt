@@ -1,314 +1,377 @@
 -- Each status from the whole of what the tool did.
 use Rattle.std.proofs.lemmas.Bool.{eqb-false}
-use Rattle.ktask_cli.specs.Fetch.{FailedOnlyByFault}
-use Rattle.std.proofs.Common.{unwrap_or, nat_eq, IsErrOf, ◌≡◌, ℕ, zero, suc, ◌<◌, ◌⊎◌, inl, inr, Bool, true, false, ◌||◌, cond, List, [], ◌∷◌, length, Option, Some, None, Result, Ok, Err, IsSome, IsNone, is_some, is_err, IsErr, IfSome, slice_get, refl, sym, ◌∙◌, ap, subst, if◌then◌else◌}
-use Rattle.std.specs.List.{list_any}
-use Rattle.task_syntax.specs.Places.{Each}
-use Rattle.task_syntax.specs.declared.program.Program.{Program as ProgramOf}
-use Rattle.task_syntax.specs.declared.value.Value.TheVariants.{Number, Trapped}
+use Rattle.std.proofs.Common.{nat_eq, ◌≡◌, ℕ, ◌<◌, ◌⊎◌, inl, inr, false, List, length, Option, Some, None, Result, Ok, Err, IsSome, IsNone, is_some, IfSome, IfOk, IsOkAnd, MatchResult, refl, sym, ◌∙◌, ap, subst}
+use Rattle.std.specs.Result.{result_map_both}
+use Rattle.task_syntax.specs.Columns.{no_columns}
+use Rattle.task_syntax.specs.declared.program.Program.{Program}
+use Rattle.task_reader.specs.Read.{program_in}
 use Rattle.plain_engine.specs.RunEnd.{RunEnd}
-use Rattle.plain_engine.specs.SoundEnd.{IsSoundEnd, IsSoundRootEnd}
-use Rattle.plain_engine.specs.declared.end.TheConstants.{LIMIT}
-use Rattle.plain_engine.specs.declared.end.RootEnd.{RootEnd}
-use Rattle.plain_engine.specs.declared.end.RootEnd.TheVariants.{Value, Cut}
-use Rattle.plain_engine.specs.declared.end.CutTag.TheVariants.{Null, Limit}
+use Rattle.ktask_cli.specs.declared.choice.Command.{Command}
+use Rattle.ktask_cli.specs.declared.choice.Command.TheVariants.{Run, Check}
 use Rattle.ktask_cli.specs.declared.fetch_error.FetchError.{FetchError}
 use Rattle.ktask_cli.specs.declared.fetch_error.FetchError.TheVariants.{Failed, TooLong, Memory}
-use Rattle.ktask_cli.specs.declared.fetch_file.TheConstants.{FILE_LIMIT}
-use Rattle.ktask_cli.specs.declared.stop.InputFile.TheVariants.{Program}
 use Rattle.ktask_cli.specs.declared.stop.Stop.{Stop}
 use Rattle.ktask_cli.specs.declared.stop.Stop.TheVariants as stop
-use Rattle.ktask_cli.specs.Choice.{choice_of, file_of}
 use Rattle.ktask_cli.specs.Count.{Rose}
-use Rattle.ktask_cli.specs.Outcome.{Answer, Reaches, Runs, Reports, FailsToReport, Concludes, Stops, RefusedFor}
-use Rattle.ktask_cli.specs.Plan.{Follows, plan_of}
-use Rattle.ktask_cli.specs.Ready.{ready_in, ready_from}
-use Rattle.first_form.specs.First.{is_first}
-use Rattle.task_text.specs.Fault.{number_of}
-use Rattle.task_text.specs.declared.fault.Fault.{Fault}
-use Rattle.task_reader.specs.Read.{program_in}
-use Rattle.ktask_cli.specs.Report.{status_of_ends, is_null, is_limit, is_trap}
-use Rattle.ktask_cli.specs.Seen.{ShelfSeen, Fetches}
-use Rattle.ktask_cli.specs.Statuses.{TwoForWords, FiveForText, IsRefused, SevenForFetch, EightForOut, RunsAtStatus, EndsByStatus, IsNumber, IsUncut}
-use Rattle.ktask_cli.specs.Stop.{status_of, fetch_stop}
+use Rattle.ktask_cli.specs.Fetch.{FailedOnlyByFault}
+use Rattle.ktask_cli.specs.Outcome.{Answer, Takes, TakesFront, Writes, Runs, Prints, Stops, Reaches, Does}
+use Rattle.ktask_cli.specs.Plan.{Plan}
+use Rattle.ktask_cli.specs.Ready.{valid_under, sizes_under}
+use Rattle.ktask_cli.specs.Refusal.{Tells, TellsOrWants, Told}
+use Rattle.ktask_cli.specs.Report.{report_of, status_of_ends}
+use Rattle.ktask_cli.specs.Seen.{ShelfSeen, SinkSeen, Fetches}
+use Rattle.ktask_cli.specs.Statuses.{Suits, SuitsText, IsFetched, IsRefused, IsOrWants, TwoForWords, FiveForText, SevenForFetch, EightForOut, ZeroForPrinted, RunForSuited, QuietWhereRefused, SilentWhereDone, IsRun, RunsAtStatus, IsStatusOf, EndsByStatus, StatusHasCause}
+use Rattle.ktask_cli.specs.Stop.{status_of, fetch_stop, longest_file}
+use Rattle.ktask_cli.proofs.Causes.{Took, Cause, wants, unfetched, unsuited, run_took, run_stopped, check_took, check_stopped}
+use Rattle.ktask_cli.proofs.Ends.{Shows, all_numbers, none_cut, limited, run_shows}
 
--- why a plan comes to a stop
-pub data Cause (choice : Option (List ℕ)) (was is : ShelfSeen) (s : Stop) : Type 0 where
-  wants : s ≡ stop.WantOfMemory → Cause choice was is s
-  no_choice : choice ≡ None → s ≡ stop.WordsRefused → Cause choice was is s
-  fetch : (name : List ℕ) (error : FetchError) → choice ≡ Some name → Fetches was is name (Err error) → s ≡ fetch_stop Program error → Cause choice was is s
-  text : (name bytes : List ℕ) → choice ≡ Some name → Fetches was is name (Ok bytes) → ready_in bytes ≡ Err s → Cause choice was is s
+-- ---- what can come of a command
 
-pub cause : (choice : Option (List ℕ)) (was is : ShelfSeen) (s : Stop) → Follows (plan_of ready_in choice) was is (Err s) → Cause choice was is s
-cause None was is s (same, inl e) = wants cc
-cause None was is s (same, inr e) = no_choice refl cc
-cause (Some name) was is s (inl (same, e)) = wants cc
-cause (Some name) was is s (inr (middle, Ok bytes, fetched, (same, inl e))) = wants cc
-cause (Some name) was is s (inr (middle, Ok bytes, fetched, (same, inr e))) = text name bytes refl (subst (λ m. Fetches was m name (Ok bytes)) (sym same) fetched) (sym e)
-cause (Some name) was is s (inr (middle, Err error, fetched, (same, e))) = fetch name error refl (subst (λ m. Fetches was m name (Err error)) (sym same) fetched) cc
+-- nothing was run or printed
+record Quiet (a : Answer) : Type 0 where
+  no_run : IsNone a.finished
+  out : a.out_is ≡ a.out_was
 
--- what a run's plan fetched
-pub record Fetched (choice : Option (List ℕ)) (was is : ShelfSeen) (p : ProgramOf) : Type 0 where
-  pub name : List ℕ
-  pub bytes : List ℕ
-  pub chosen : choice ≡ Some name
-  pub fetched : Fetches was is name (Ok bytes)
-  pub ready : ready_in bytes ≡ Ok p
+data Came (command : Command) (name : List ℕ) (was is : ShelfSeen) (a : Answer) : Type 0 where
+  ran : command ≡ Run → Took (Suits command) name was is → (e : RunEnd) → a.finished ≡ Some e → Shows e a.status → a.status ≡ status_of_ends e.roots → a.err_is ≡ a.err_was → Came command name was is a
+  unreported : command ≡ Run → Took (Suits command) name was is → (e : RunEnd) → a.finished ≡ Some e → a.status ≡ 8 → Rose a.out_was.faults a.out_is.faults → Came command name was is a
+  printed : ¬ (command ≡ Run) → Took (Suits command) name was is → IsNone a.finished → a.status ≡ 0 → a.err_is ≡ a.err_was → Came command name was is a
+  unprinted : ¬ (command ≡ Run) → Took (Suits command) name was is → IsNone a.finished → a.status ≡ 8 → Rose a.out_was.faults a.out_is.faults → Came command name was is a
+  wanting : Quiet a → a.status ≡ 9 → Came command name was is a
+  refused : Quiet a → a.status ≡ 7 → (error : FetchError) → Fetches was is name (Err error) → (error ≡ Failed) ⊎ (error ≡ TooLong) → Came command name was is a
+  unfit : Quiet a → a.status ≡ 5 → (text : List ℕ) → Fetches was is name (Ok text) → ¬ SuitsText command text → Came command name was is a
 
-pub fetched_for : (choice : Option (List ℕ)) (was is : ShelfSeen) (p : ProgramOf) → Follows (plan_of ready_in choice) was is (Ok p) → Fetched choice was is p
-fetched_for None was is p (same, inl e) = cc
-fetched_for None was is p (same, inr e) = cc
-fetched_for (Some name) was is p (inl (same, e)) = cc
-fetched_for (Some name) was is p (inr (middle, Ok bytes, fetched, (same, inl e))) = cc
-fetched_for (Some name) was is p (inr (middle, Ok bytes, fetched, (same, inr e))) =
-    record { name = name; bytes = bytes; chosen = refl; fetched = subst (λ m. Fetches was m name (Ok bytes)) (sym same) fetched; ready = sym e }
-fetched_for (Some name) was is p (inr (middle, Err error, fetched, (same, e))) = cc
+stopped : (command : Command) (name : List ℕ) (was is : ShelfSeen) (a : Answer) (s : Stop) → Cause (Suits command) name was is s → Quiet a → (a.status ≡ status_of s) ⊎ (a.status ≡ 9) → Came command name was is a
+stopped command name was is a s c q (inr nine) = wanting q nine
+stopped command name was is a s (wants e) q (inl status) = wanting q (status ∙ ap status_of e)
+stopped command name was is a s (unfetched Failed fetched e) q (inl status) = refused q (status ∙ ap status_of e) Failed fetched (inl refl)
+stopped command name was is a s (unfetched TooLong fetched e) q (inl status) = refused q (status ∙ ap status_of e) TooLong fetched (inr refl)
+stopped command name was is a s (unfetched Memory fetched e) q (inl status) = wanting q (status ∙ ap status_of e)
+stopped command name was is a s (unsuited text fetched five not) q (inl status) = unfit q (status ∙ five) text fetched not
 
--- the status of a run's ends is one of four, and says what they are
-pub data EndsAs (ends : List RootEnd) (status : ℕ) : Type 0 where
-  numbers : status ≡ 0 → Each ends IsNumber → EndsAs ends status
-  traps : status ≡ 1 → Each ends IsUncut → EndsAs ends status
-  nulls : status ≡ 3 → list_any is_null ends ≡ true → EndsAs ends status
-  limits : status ≡ 4 → list_any is_limit ends ≡ true → EndsAs ends status
+told_or_wants : (s : Stop) (name : List ℕ) (status : ℕ) (was is : SinkSeen) → TellsOrWants s name status was is → (status ≡ status_of s) ⊎ (status ≡ 9)
+told_or_wants s name status was is (inl t) = inl t.status_is
+told_or_wants s name status was is (inr t) = inr t.status_is
 
-any-some : {X : Type 0} (p : X → Bool) (xs : List X) → list_any p xs ≡ true → (at : ℕ) × (x : X) × (slice_get xs at ≡ Some x) × (p x ≡ true)
-any-some p [] h = cc
-any-some {X = X} p (y ∷ ys) h = by (p y) refl h (any-some p ys) where
-  by : (b : Bool) → p y ≡ b → (b || list_any p ys) ≡ true → (list_any p ys ≡ true → (at : ℕ) × (x : X) × (slice_get ys at ≡ Some x) × (p x ≡ true))
-      → (at : ℕ) × (x : X) × (slice_get (y ∷ ys) at ≡ Some x) × (p x ≡ true)
-  by true e h more = (0, y, refl, e)
-  by false e h more = let r = more h in (suc r.0, r.1, r.2, r.3)
+status_told : (s : Stop) (name : List ℕ) (status : ℕ) (was is : SinkSeen) → Told s name status was is → (status ≡ status_of s) ⊎ (status ≡ 9)
+status_told (stop.CannotRead which) name status was is t = told_or_wants (stop.CannotRead which) name status was is t
+status_told (stop.TooLong which) name status was is t = told_or_wants (stop.TooLong which) name status was is t
+status_told stop.WordsRefused name status was is t = inl t.status_is
+status_told (stop.ProgramFault cause line word) name status was is t = inl t.status_is
+status_told (stop.CheckFault cause line named) name status was is t = inl t.status_is
+status_told stop.WriteFault name status was is t = inl t.status_is
+status_told stop.WantOfMemory name status was is t = inl t.status_is
 
-or_false : (a b : Bool) → (a || b) ≡ false → (a ≡ false) × (b ≡ false)
-or_false true b h = cc
-or_false false b h = (refl, h)
+quiet_stop : (s : Stop) (name : List ℕ) (a : Answer) → Stops s name a → Quiet a
+quiet_stop s name a h = record { no_run = h.no_run; out = h.out }
 
-any-none : {X : Type 0} (p : X → Bool) (xs : List X) → list_any p xs ≡ false → (at : ℕ) (x : X) → slice_get xs at ≡ Some x → p x ≡ false
-any-none p [] h at x is = cc
-any-none p (y ∷ ys) h zero x is = let b : (p y ≡ false) × (list_any p ys ≡ false) = or_false _ _ h in let s : y ≡ x = cc in ap p (sym s) ∙ b.0
-any-none p (y ∷ ys) h (suc at) x is = any-none p ys (or_false (p y) (list_any p ys) h).1 at x is
+status_stop : (s : Stop) (name : List ℕ) (a : Answer) → Stops s name a → (a.status ≡ status_of s) ⊎ (a.status ≡ 9)
+status_stop s name a h = status_told s name a.status a.err_was a.err_is h.told
 
-uncut : (e : RootEnd) → is_null e ≡ false → is_limit e ≡ false → IsUncut e
-uncut (Value v) n l = tt
-uncut (Cut Null from) n l = cc
-uncut (Cut Limit from) n l = cc
+came_run : (name : List ℕ) (was is : ShelfSeen) (a : Answer) → Reaches (valid_under name) Runs name was is a → Came Run name was is a
+came_run name was is a r = by r.reached r.follows r.ended where
+  offered : (p : Program) (h : Runs p a) → Took (Suits Run) name was is → Writes (report_of p h.end) (status_of_ends h.end.roots) a → Came Run name was is a
+  offered p h took (inl t) = ran refl took h.end h.finished (subst (λ n. Shows h.end n) (sym t.status_is) (run_shows p no_columns h.end h.sound)) t.status_is t.err
+  offered p h took (inr t) = unreported refl took h.end h.finished t.told.status_is t.fault
 
-number : (e : RootEnd) → is_null e ≡ false → is_limit e ≡ false → is_trap e ≡ false → IsNumber e
-number (Value (Number n)) a b c = tt
-number (Value (Trapped trap)) a b c = cc
-number (Cut Null from) a b c = cc
-number (Cut Limit from) a b c = cc
+  by : (reached : Result Program Stop) → valid_under name was is reached → MatchResult reached (λ p. Runs p a) (λ s. Stops s name a) → Came Run name was is a
+  by (Ok p) follows h = offered p h (run_took name was is p follows) h.offered
+  by (Err s) follows h = stopped Run name was is a s (run_stopped name was is s follows) (quiet_stop s name a h) (status_stop s name a h)
 
-pub ends_as : (ends : List RootEnd) → EndsAs ends (status_of_ends ends)
-ends_as ends = by (list_any is_null ends) refl (list_any is_limit ends) refl (list_any is_trap ends) refl where
-  by : (n : Bool) → list_any is_null ends ≡ n → (l : Bool) → list_any is_limit ends ≡ l → (t : Bool) → list_any is_trap ends ≡ t
-      → EndsAs ends (if n then 3 else (if l then 4 else (if t then 1 else 0)))
-  by true en l el t et = nulls refl en
-  by false en true el t et = limits refl el
-  by false en false el true et = traps refl (λ at e is. uncut e (any-none is_null ends en at e is) (any-none is_limit ends el at e is))
-  by false en false el false et =
-      numbers refl (λ at e is. number e (any-none is_null ends en at e is) (any-none is_limit ends el at e is) (any-none is_trap ends et at e is))
+-- a command that prints
+came_printed : (command : Command) → ¬ (command ≡ Run) → (plan : Plan (List ℕ)) (name : List ℕ) (was is : ShelfSeen) (a : Answer)
+    → ((text : List ℕ) → plan was is (Ok text) → Took (Suits command) name was is) → ((s : Stop) → plan was is (Err s) → Cause (Suits command) name was is s)
+    → Reaches plan Prints name was is a → Came command name was is a
+came_printed command plain plan name was is a took cause r = by r.reached r.follows r.ended where
+  offered : (text : List ℕ) (h : Prints text a) → Took (Suits command) name was is → Writes text 0 a → Came command name was is a
+  offered text h got (inl t) = printed plain got h.no_run t.status_is t.err
+  offered text h got (inr t) = unprinted plain got h.no_run t.told.status_is t.fault
 
-not_null : (p : ProgramOf) (accepted at : ℕ) (x : RootEnd) → IsSoundRootEnd p accepted at x → is_null x ≡ true → ⊥
-not_null p accepted at (Value v) s h = cc
-not_null p accepted at (Cut Null from) s h = s
-not_null p accepted at (Cut Limit from) s h = cc
+  by : (reached : Result (List ℕ) Stop) → plan was is reached → MatchResult reached (λ text. Prints text a) (λ s. Stops s name a) → Came command name was is a
+  by (Ok text) follows h = offered text h (took text follows) h.offered
+  by (Err s) follows h = stopped command name was is a s (cause s follows) (quiet_stop s name a h) (status_stop s name a h)
 
-at_limit : (p : ProgramOf) (accepted at : ℕ) (x : RootEnd) → IsSoundRootEnd p accepted at x → is_limit x ≡ true → accepted ≡ LIMIT
-at_limit p accepted at (Value v) s h = cc
-at_limit p accepted at (Cut Null from) s h = absurd s
-at_limit p accepted at (Cut Limit from) s h = s.0
+is_no_run : ¬ (Check ≡ Run)
+is_no_run e = cc
 
--- what a run's status says of its end
-pub data Shows (e : RunEnd) (status : ℕ) : Type 0 where
-  all_numbers : status ≡ 0 → Each e.roots IsNumber → Shows e status
-  none_cut : status ≡ 1 → Each e.roots IsUncut → Shows e status
-  limited : status ≡ 4 → e.accepted ≡ LIMIT → Shows e status
+came : (command : Command) (name : List ℕ) (was is : ShelfSeen) (a : Answer) → Does (Some (command, name)) was is a → Came command name was is a
+came Run name was is a r = came_run name was is a r
+came Check name was is a r = came_printed Check is_no_run (sizes_under name) name was is a (check_took name was is) (check_stopped name was is) r
 
-shows : (p : ProgramOf) (e : RunEnd) (status : ℕ) → IsSoundEnd p e → EndsAs e.roots status → Shows e status
-shows p e status sound (numbers is each) = all_numbers is each
-shows p e status sound (traps is each) = none_cut is each
-shows p e status sound (nulls is any) = let r = any-some is_null e.roots any in absurd (not_null p e.accepted r.0 r.1 (sound.roots r.0 r.1 r.2) r.3)
-shows p e status sound (limits is any) = let r = any-some is_limit e.roots any in limited is (at_limit p e.accepted r.0 r.1 (sound.roots r.0 r.1 r.2) r.3)
-
--- all that can come of a command
-pub data Came (words : List (List ℕ)) (was is : ShelfSeen) (a : Answer) : Type 0 where
-  reported : (p : ProgramOf) (e : RunEnd) → a.finished ≡ Some e → Shows e a.status → Fetched (choice_of words) was is p → Came words was is a
-  unwritten : (p : ProgramOf) (e : RunEnd) → a.finished ≡ Some e → a.status ≡ 8 → Rose a.out_was.faults a.out_is.faults → Fetched (choice_of words) was is p → Came words was is a
-  wanted : IsNone a.finished → a.status ≡ 9 → Came words was is a
-  unasked : IsNone a.finished → a.status ≡ 2 → choice_of words ≡ None → Came words was is a
-  unfetched : IsNone a.finished → a.status ≡ 7 → (name : List ℕ) (error : FetchError) → choice_of words ≡ Some name → Fetches was is name (Err error) → (error ≡ Failed) ⊎ (error ≡ TooLong) → Came words was is a
-  unread : IsNone a.finished → a.status ≡ 5 → (name bytes : List ℕ) → choice_of words ≡ Some name → Fetches was is name (Ok bytes) → IsErr (ready_in bytes) → Came words was is a
-
-unready : (r : Result ProgramOf Fault) (s : Stop) → ready_from r ≡ Err s → status_of s ≡ 5
-unready (Err fault) s e = let t : s ≡ stop.ProgramFault (number_of fault.cause) fault.line fault.word = cc in ap status_of t
-unready (Ok p) s e = by (is_first p) e where
-  by : (b : Bool) → cond b (Ok p) (Err stop.NotFirstForm) ≡ Err s → status_of s ≡ 5
-  by true e = cc
-  by false e = let t : s ≡ stop.NotFirstForm = cc in ap status_of t
-
-is_refused : {A B : Type 0} (r : Result A B) (s : B) → r ≡ Err s → IsErr r
-is_refused r s e = ap is_err e
-
-came_to_stop : (words : List (List ℕ)) (was is : ShelfSeen) (a : Answer) (s : Stop) → Cause (choice_of words) was is s → IsNone a.finished → (a.status ≡ status_of s) ⊎ (a.status ≡ 9) → Came words was is a
-came_to_stop words was is a s c none (inr nine) = wanted none nine
-came_to_stop words was is a s (wants e) none (inl status) = wanted none (status ∙ ap status_of e)
-came_to_stop words was is a s (no_choice choice e) none (inl status) = unasked none (status ∙ ap status_of e) choice
-came_to_stop words was is a s (fetch name Failed choice fetched e) none (inl status) = unfetched none (status ∙ ap status_of e) name Failed choice fetched (inl refl)
-came_to_stop words was is a s (fetch name TooLong choice fetched e) none (inl status) = unfetched none (status ∙ ap status_of e) name TooLong choice fetched (inr refl)
-came_to_stop words was is a s (fetch name Memory choice fetched e) none (inl status) = wanted none (status ∙ ap status_of e)
-came_to_stop words was is a s (text name bytes choice fetched e) none (inl status) =
-    unread none (status ∙ unready (program_in bytes) s e) name bytes choice fetched (is_refused (ready_in bytes) s e)
-
-came_to_run : (words : List (List ℕ)) (was is : ShelfSeen) (a : Answer) (p : ProgramOf) → Fetched (choice_of words) was is p → Runs p a → Came words was is a
-came_to_run words was is a p fetched runs = by runs.offered where
-  by : Reports p runs.end a ⊎ FailsToReport p runs.end a → Came words was is a
-  by (inl r) = reported p runs.end runs.finished (subst (λ n. Shows runs.end n) (sym r.status) (shows p runs.end (status_of_ends runs.end.roots) runs.sound (ends_as runs.end.roots))) fetched
-  by (inr r) = unwritten p runs.end runs.finished r.told.status_is r.fault fetched
-
-pub came : (words : List (List ℕ)) (was is : ShelfSeen) (a : Answer) → Reaches words was is a → Came words was is a
-came words was is a r = by r.reached r.follows r.concludes where
-  by : (reached : Result ProgramOf Stop) → Follows (plan_of ready_in (choice_of words)) was is reached → Concludes reached (file_of words) a → Came words was is a
-  by (Ok p) follows runs = came_to_run words was is a p (fetched_for (choice_of words) was is p follows) runs
-  by (Err s) follows (inl refused) = came_to_stop words was is a s (cause (choice_of words) was is s follows) refused.no_run (inl refused.told.status_is)
-  by (Err s) follows (inr refused) = came_to_stop words was is a s (cause (choice_of words) was is s follows) refused.no_run (inr refused.told.status_is)
+-- ---- the causes of each status
 
 -- two statuses are not one
 other : {P : Type 0} (status m n : ℕ) → status ≡ m → status ≡ n → nat_eq m n ≡ false → P
 other status m n e f h = absurd (eqb-false m n h (sym e ∙ f))
 
+shown_not : {P : Type 0} (e : RunEnd) (status n : ℕ) → Shows e status → status ≡ n → nat_eq 0 n ≡ false → nat_eq 1 n ≡ false → nat_eq 4 n ≡ false → P
+shown_not e status n (all_numbers is each) f a b c = other status 0 n is f a
+shown_not e status n (none_cut is any each) f a b c = other status 1 n is f b
+shown_not e status n (limited is any at) f a b c = other status 4 n is f c
+
 some_none : {A P : Type 0} (o : Option A) (x : A) → o ≡ Some x → o ≡ None → P
 some_none o x e f = cc
 
-two : (words : List (List ℕ)) (was is : ShelfSeen) (a : Answer) → Came words was is a → TwoForWords words a
-two words was is a (reported p e finished (all_numbers status each) fetched) = ((λ h. other a.status 0 2 status h refl), (λ h. some_none (choice_of words) fetched.name fetched.chosen h))
-two words was is a (reported p e finished (none_cut status each) fetched) = ((λ h. other a.status 1 2 status h refl), (λ h. some_none (choice_of words) fetched.name fetched.chosen h))
-two words was is a (reported p e finished (limited status at) fetched) = ((λ h. other a.status 4 2 status h refl), (λ h. some_none (choice_of words) fetched.name fetched.chosen h))
-two words was is a (unwritten p e finished status fault fetched) = ((λ h. other a.status 8 2 status h refl), (λ h. some_none (choice_of words) fetched.name fetched.chosen h))
-two words was is a (wanted none status) = ((λ h. other a.status 9 2 status h refl), (λ h. inr status))
-two words was is a (unasked none status choice) = ((λ h. choice), (λ h. inl status))
-two words was is a (unfetched none status name error choice fetched which) = ((λ h. other a.status 7 2 status h refl), (λ h. some_none (choice_of words) name choice h))
-two words was is a (unread none status name bytes choice fetched refused) = ((λ h. other a.status 5 2 status h refl), (λ h. some_none (choice_of words) name choice h))
+some_for_none : {A P : Type 0} (o : Option A) → IsSome o → IsNone o → P
+some_for_none None s n = cc
+some_for_none (Some x) s n = cc
 
--- the file that was chosen is the one that the words name
-chosen_file : (words : List (List ℕ)) (name : List ℕ) → choice_of words ≡ Some name → file_of words ≡ name
-chosen_file words name e = ap (λ o. unwrap_or o []) e
+if_some : {A : Type 0} (o : Option A) (P Q : A → Type 0) → ((x : A) → P x → Q x) → IfSome o P → IfSome o Q
+if_some None P Q f h = tt
+if_some (Some x) P Q f h = f x h
 
-five : (words : List (List ℕ)) (was is : ShelfSeen) (a : Answer) → Came words was is a → FiveForText words was is a
-five words was is a (reported p e finished (all_numbers status each) fetched) = λ h. other a.status 0 5 status h refl
-five words was is a (reported p e finished (none_cut status each) fetched) = λ h. other a.status 1 5 status h refl
-five words was is a (reported p e finished (limited status at) fetched) = λ h. other a.status 4 5 status h refl
-five words was is a (unwritten p e finished status fault fetched) = λ h. other a.status 8 5 status h refl
-five words was is a (wanted none status) = λ h. other a.status 9 5 status h refl
-five words was is a (unasked none status choice) = λ h. other a.status 2 5 status h refl
-five words was is a (unfetched none status name error choice fetched which) = λ h. other a.status 7 5 status h refl
-five words was is a (unread none status name bytes choice fetched refused) =
-    λ h. (bytes, fetched.told, subst (λ f. IfSome (was.holds f) (λ held. bytes ≡ held)) (sym (chosen_file words name choice)) fetched.content, refused)
+if_some_all : {A : Type 0} (o : Option A) (Q : A → Type 0) → ((x : A) → Q x) → IfSome o Q
+if_some_all None Q f = tt
+if_some_all (Some x) Q f = f x
 
--- a fetch that told its bytes was not refused
-not_refused : (is : ShelfSeen) → is.last ≡ Some (Ok tt) → IsRefused is → ⊥
+-- what the shelf holds under the name suits, where a text that suits was taken
+held_suits : (command : Command) (name : List ℕ) (was is : ShelfSeen) → Took (Suits command) name was is → IfSome (was.holds name) (SuitsText command)
+held_suits command name was is t = if_some (was.holds name) (λ held. t.text ≡ held) (SuitsText command) (λ held e. subst (SuitsText command) e t.suits) t.fetched.content
+
+-- a fetch that gave its content was not refused
+not_refused : (is : ShelfSeen) → IsFetched is → IsRefused is → ⊥
 not_refused is told (inl e) = cc
 not_refused is told (inr e) = cc
 
+not_fetched : (was is : ShelfSeen) (name : List ℕ) (error : FetchError) → Fetches was is name (Err error) → IsFetched is → ⊥
+not_fetched was is name error fetched told = by is.last told fetched.told where
+  by : (o : Option (Result (Unit {0}) FetchError)) → o ≡ Some (Ok tt) → o ≡ Some (Err error) → ⊥
+  by o e f = cc
+
+some_choice_none : {P : Type 0} (choice : Option (Command × List ℕ)) → IsSome choice → choice ≡ None → P
+some_choice_none choice s e = cc
+
+abbrev Refused : Option (Command × List ℕ) → Type 0
+Refused choice = choice ≡ None
+
+two : (command : Command) (name : List ℕ) (was is : ShelfSeen) (a : Answer) → Came command name was is a → TwoForWords (Some (command, name)) a
+two command name was is a c = ((λ h. by c h), (λ h. some_choice_none (Some (command, name)) refl h)) where
+  by : Came command name was is a → a.status ≡ 2 → Refused (Some (command, name))
+  by (ran run took e finished shows by_roots err) h = shown_not e a.status 2 shows h refl refl refl
+  by (unreported run took e finished status fault) h = other a.status 8 2 status h refl
+  by (printed plain took none status err) h = other a.status 0 2 status h refl
+  by (unprinted plain took none status fault) h = other a.status 8 2 status h refl
+  by (wanting q status) h = other a.status 9 2 status h refl
+  by (refused q status error fetched which) h = other a.status 7 2 status h refl
+  by (unfit q status text fetched not) h = other a.status 5 2 status h refl
+
+five_where_suited : (command : Command) (name : List ℕ) (was is : ShelfSeen) (a : Answer) → Took (Suits command) name was is
+    → IsFetched is → IfSome (was.holds name) (λ held. ¬ SuitsText command held → IsOrWants 5 a)
+five_where_suited command name was is a took told =
+    if_some (was.holds name) (SuitsText command) (λ held. ¬ SuitsText command held → IsOrWants 5 a) (λ held suits not. absurd (not suits)) (held_suits command name was is took)
+
+five : (command : Command) (name : List ℕ) (was is : ShelfSeen) (a : Answer) → Came command name was is a → FiveForText (Some (command, name)) was is a
+five command name was is a (ran run took e finished shows by_roots err) = ((λ h. shown_not e a.status 5 shows h refl refl refl), five_where_suited command name was is a took)
+five command name was is a (unreported run took e finished status fault) = ((λ h. other a.status 8 5 status h refl), five_where_suited command name was is a took)
+five command name was is a (printed plain took none status err) = ((λ h. other a.status 0 5 status h refl), five_where_suited command name was is a took)
+five command name was is a (unprinted plain took none status fault) = ((λ h. other a.status 8 5 status h refl), five_where_suited command name was is a took)
+five command name was is a (wanting q status) = ((λ h. other a.status 9 5 status h refl), (λ told. if_some_all (was.holds name) (λ held. ¬ SuitsText command held → IsOrWants 5 a) (λ held not. inr status)))
+five command name was is a (refused q status error fetched which) = ((λ h. other a.status 7 5 status h refl), (λ told. absurd (not_fetched was is name error fetched told)))
+five command name was is a (unfit q status text fetched not) =
+    ((λ h. (fetched.told, (text, fetched.content, not))), (λ told. if_some_all (was.holds name) (λ held. ¬ SuitsText command held → IsOrWants 5 a) (λ held no. inl status)))
+
 refused_for : (was is : ShelfSeen) (name : List ℕ) (error : FetchError) → Fetches was is name (Err error) → (error ≡ Failed) ⊎ (error ≡ TooLong)
-    → IsRefused is × (Rose was.faults is.faults ⊎ IfSome (was.holds name) (λ held. FILE_LIMIT < length held))
+    → IsRefused is × (Rose was.faults is.faults ⊎ IfSome (was.holds name) (λ held. longest_file < length held))
 refused_for was is name error fetched (inl e) = (inl (fetched.told ∙ ap (λ x. Some (Err x)) e), inl (subst (λ x. FailedOnlyByFault {T = List ℕ} (Err x) was.faults is.faults) e fetched.cause))
 refused_for was is name error fetched (inr e) = (inr (fetched.told ∙ ap (λ x. Some (Err x)) e), inr (fetched.long (ap Err e)))
 
-seven : (words : List (List ℕ)) (was is : ShelfSeen) (a : Answer) → Came words was is a → SevenForFetch words was is a
-seven words was is a (reported p e finished (all_numbers status each) fetched) = ((λ h. other a.status 0 7 status h refl), (λ some refused. absurd (not_refused is fetched.fetched.told refused)))
-seven words was is a (reported p e finished (none_cut status each) fetched) = ((λ h. other a.status 1 7 status h refl), (λ some refused. absurd (not_refused is fetched.fetched.told refused)))
-seven words was is a (reported p e finished (limited status at) fetched) = ((λ h. other a.status 4 7 status h refl), (λ some refused. absurd (not_refused is fetched.fetched.told refused)))
-seven words was is a (unwritten p e finished status fault fetched) = ((λ h. other a.status 8 7 status h refl), (λ some refused. absurd (not_refused is fetched.fetched.told refused)))
-seven words was is a (wanted none status) = ((λ h. other a.status 9 7 status h refl), (λ some refused. inr status))
-seven words was is a (unasked none status choice) = ((λ h. other a.status 2 7 status h refl), (λ some refused. chosen_none (choice_of words) choice some)) where
-  chosen_none : {P : Type 0} (o : Option (List ℕ)) → o ≡ None → IsSome o → P
-  chosen_none None e some = cc
-  chosen_none (Some x) e some = cc
-seven words was is a (unfetched none status name error choice fetched which) = ((λ h. (named.0, by named.1)), (λ some refused. inl status)) where
-  named : IsRefused is × (Rose was.faults is.faults ⊎ IfSome (was.holds name) (λ held. FILE_LIMIT < length held))
-  named = refused_for was is name error fetched which
+seven : (command : Command) (name : List ℕ) (was is : ShelfSeen) (a : Answer) → Came command name was is a → SevenForFetch (Some (command, name)) was is a
+seven command name was is a (ran run took e finished shows by_roots err) = ((λ h. shown_not e a.status 7 shows h refl refl refl), (λ r. absurd (not_refused is took.fetched.told r)))
+seven command name was is a (unreported run took e finished status fault) = ((λ h. other a.status 8 7 status h refl), (λ r. absurd (not_refused is took.fetched.told r)))
+seven command name was is a (printed plain took none status err) = ((λ h. other a.status 0 7 status h refl), (λ r. absurd (not_refused is took.fetched.told r)))
+seven command name was is a (unprinted plain took none status fault) = ((λ h. other a.status 8 7 status h refl), (λ r. absurd (not_refused is took.fetched.told r)))
+seven command name was is a (wanting q status) = ((λ h. other a.status 9 7 status h refl), (λ r. inr status))
+seven command name was is a (refused q status error fetched which) = ((λ h. refused_for was is name error fetched which), (λ r. inl status))
+seven command name was is a (unfit q status text fetched not) = ((λ h. other a.status 5 7 status h refl), (λ r. absurd (not_refused is fetched.told r)))
 
-  by : Rose was.faults is.faults ⊎ IfSome (was.holds name) (λ held. FILE_LIMIT < length held) → Rose was.faults is.faults ⊎ IfSome (was.holds (file_of words)) (λ held. FILE_LIMIT < length held)
-  by c = subst (λ f. Rose was.faults is.faults ⊎ IfSome (was.holds f) (λ held. FILE_LIMIT < length held)) (sym (chosen_file words name choice)) c
-seven words was is a (unread none status name bytes choice fetched refused) = ((λ h. other a.status 5 7 status h refl), (λ some r. absurd (not_refused is fetched.told r)))
+eight : (command : Command) (name : List ℕ) (was is : ShelfSeen) (a : Answer) → Came command name was is a → EightForOut a
+eight command name was is a (ran run took e finished shows by_roots err) h = shown_not e a.status 8 shows h refl refl refl
+eight command name was is a (unreported run took e finished status fault) h = fault
+eight command name was is a (printed plain took none status err) h = other a.status 0 8 status h refl
+eight command name was is a (unprinted plain took none status fault) h = fault
+eight command name was is a (wanting q status) h = other a.status 9 8 status h refl
+eight command name was is a (refused q status error fetched which) h = other a.status 7 8 status h refl
+eight command name was is a (unfit q status text fetched not) h = other a.status 5 8 status h refl
 
-eight : (words : List (List ℕ)) (was is : ShelfSeen) (a : Answer) → Came words was is a → EightForOut a
-eight words was is a (reported p e finished (all_numbers status each) fetched) = λ h. other a.status 0 8 status h refl
-eight words was is a (reported p e finished (none_cut status each) fetched) = λ h. other a.status 1 8 status h refl
-eight words was is a (reported p e finished (limited status at) fetched) = λ h. other a.status 4 8 status h refl
-eight words was is a (unwritten p e finished status fault fetched) = λ h. fault
-eight words was is a (wanted none status) = λ h. other a.status 9 8 status h refl
-eight words was is a (unasked none status choice) = λ h. other a.status 2 8 status h refl
-eight words was is a (unfetched none status name error choice fetched which) = λ h. other a.status 7 8 status h refl
-eight words was is a (unread none status name bytes choice fetched refused) = λ h. other a.status 5 8 status h refl
+zero_printed : (command : Command) (name : List ℕ) (was is : ShelfSeen) (a : Answer) → Came command name was is a → ZeroForPrinted (Some (command, name)) was is a
+zero_printed command name was is a c plain told = by c where
+  by : Came command name was is a → IfSome (was.holds name) (λ held. SuitsText command held → (¬ Rose a.out_was.faults a.out_is.faults) → IsOrWants 0 a)
+  by (ran run took e finished shows by_roots err) = absurd (plain run)
+  by (unreported run took e finished status fault) = absurd (plain run)
+  by (printed p took none status err) = if_some_all (was.holds name) (λ held. SuitsText command held → (¬ Rose a.out_was.faults a.out_is.faults) → IsOrWants 0 a) (λ held suits no. inl status)
+  by (unprinted p took none status fault) = if_some_all (was.holds name) (λ held. SuitsText command held → (¬ Rose a.out_was.faults a.out_is.faults) → IsOrWants 0 a) (λ held suits no. absurd (no fault))
+  by (wanting q status) = if_some_all (was.holds name) (λ held. SuitsText command held → (¬ Rose a.out_was.faults a.out_is.faults) → IsOrWants 0 a) (λ held suits no. inr status)
+  by (refused q status error fetched which) = absurd (not_fetched was is name error fetched told)
+  by (unfit q status text fetched not) = if_some (was.holds name) (λ held. text ≡ held) (λ held. SuitsText command held → (¬ Rose a.out_was.faults a.out_is.faults) → IsOrWants 0 a)
+      (λ held e suits no. absurd (not (subst (SuitsText command) (sym e) suits))) fetched.content
+
+run_suited : (command : Command) (name : List ℕ) (was is : ShelfSeen) (a : Answer) → Came command name was is a → RunForSuited (Some (command, name)) was is a
+run_suited command name was is a c run told = by c where
+  by : Came command name was is a → IfSome (was.holds name) (λ held. SuitsText command held → IsSome a.finished ⊎ (a.status ≡ 9))
+  by (ran run took e finished shows by_roots err) = if_some_all (was.holds name) (λ held. SuitsText command held → IsSome a.finished ⊎ (a.status ≡ 9)) (λ held suits. inl (ap is_some finished))
+  by (unreported run took e finished status fault) = if_some_all (was.holds name) (λ held. SuitsText command held → IsSome a.finished ⊎ (a.status ≡ 9)) (λ held suits. inl (ap is_some finished))
+  by (printed plain took none status err) = absurd (plain run)
+  by (unprinted plain took none status fault) = absurd (plain run)
+  by (wanting q status) = if_some_all (was.holds name) (λ held. SuitsText command held → IsSome a.finished ⊎ (a.status ≡ 9)) (λ held suits. inr status)
+  by (refused q status error fetched which) = absurd (not_fetched was is name error fetched told)
+  by (unfit q status text fetched not) = if_some (was.holds name) (λ held. text ≡ held) (λ held. SuitsText command held → IsSome a.finished ⊎ (a.status ≡ 9))
+      (λ held e suits. absurd (not (subst (SuitsText command) (sym e) suits))) fetched.content
+
+-- the statuses at which nothing is told
+abbrev OfDone : Answer → Type 0
+OfDone a = (a.status ≡ 0) ⊎ ((a.status ≡ 1) ⊎ (a.status ≡ 4))
+
+not_done_at : {P : Type 0} (a : Answer) (m : ℕ) → a.status ≡ m → nat_eq m 0 ≡ false → nat_eq m 1 ≡ false → nat_eq m 4 ≡ false → OfDone a → P
+not_done_at a m is x y z (inl e) = other a.status m 0 is e x
+not_done_at a m is x y z (inr (inl e)) = other a.status m 1 is e y
+not_done_at a m is x y z (inr (inr e)) = other a.status m 4 is e z
+
+silent : (command : Command) (name : List ℕ) (was is : ShelfSeen) (a : Answer) → Came command name was is a → SilentWhereDone a
+silent command name was is a (ran run took e finished shows by_roots err) h = err
+silent command name was is a (unreported run took e finished status fault) h = not_done_at a 8 status refl refl refl h
+silent command name was is a (printed plain took none status err) h = err
+silent command name was is a (unprinted plain took none status fault) h = not_done_at a 8 status refl refl refl h
+silent command name was is a (wanting q status) h = not_done_at a 9 status refl refl refl h
+silent command name was is a (refused q status error fetched which) h = not_done_at a 7 status refl refl refl h
+silent command name was is a (unfit q status text fetched not) h = not_done_at a 5 status refl refl refl h
+
+-- the statuses of a refusal
+abbrev OfRefusal : Answer → Type 0
+OfRefusal a = (a.status ≡ 2) ⊎ ((a.status ≡ 5) ⊎ ((a.status ≡ 7) ⊎ (a.status ≡ 9)))
+
+no_refusal_at : {P : Type 0} (a : Answer) (m : ℕ) → a.status ≡ m → nat_eq m 2 ≡ false → nat_eq m 5 ≡ false → nat_eq m 7 ≡ false → nat_eq m 9 ≡ false → OfRefusal a → P
+no_refusal_at a m is w x y z (inl e) = other a.status m 2 is e w
+no_refusal_at a m is w x y z (inr (inl e)) = other a.status m 5 is e x
+no_refusal_at a m is w x y z (inr (inr (inl e))) = other a.status m 7 is e y
+no_refusal_at a m is w x y z (inr (inr (inr e))) = other a.status m 9 is e z
+
+no_refusal_shown : {P : Type 0} (a : Answer) (e : RunEnd) → Shows e a.status → OfRefusal a → P
+no_refusal_shown a e (all_numbers is each) r = no_refusal_at a 0 is refl refl refl refl r
+no_refusal_shown a e (none_cut is any each) r = no_refusal_at a 1 is refl refl refl refl r
+no_refusal_shown a e (limited is any at) r = no_refusal_at a 4 is refl refl refl refl r
+
+quiet : (command : Command) (name : List ℕ) (was is : ShelfSeen) (a : Answer) → Came command name was is a → QuietWhereRefused a
+quiet command name was is a (ran run took e finished shows by_roots err) r = no_refusal_shown a e shows r
+quiet command name was is a (unreported run took e finished status fault) r = no_refusal_at a 8 status refl refl refl refl r
+quiet command name was is a (printed plain took none status err) r = no_refusal_at a 0 status refl refl refl refl r
+quiet command name was is a (unprinted plain took none status fault) r = no_refusal_at a 8 status refl refl refl refl r
+quiet command name was is a (wanting q status) r = q.out
+quiet command name was is a (refused q status error fetched which) r = q.out
+quiet command name was is a (unfit q status text fetched not) r = q.out
 
 -- the statuses of a run
-abbrev pub OfRun : ℕ → Type 0
-OfRun status = (status ≡ 0) ⊎ ((status ≡ 1) ⊎ ((status ≡ 4) ⊎ (status ≡ 8)))
+abbrev OfRun : Answer → Type 0
+OfRun a = (a.status ≡ 0) ⊎ ((a.status ≡ 1) ⊎ ((a.status ≡ 4) ⊎ (a.status ≡ 8)))
 
-no_run_at : {P : Type 0} (status m : ℕ) → status ≡ m → nat_eq m 0 ≡ false → nat_eq m 1 ≡ false → nat_eq m 4 ≡ false → nat_eq m 8 ≡ false → OfRun status → P
-no_run_at status m is a b c d (inl e) = other status m 0 is e a
-no_run_at status m is a b c d (inr (inl e)) = other status m 1 is e b
-no_run_at status m is a b c d (inr (inr (inl e))) = other status m 4 is e c
-no_run_at status m is a b c d (inr (inr (inr e))) = other status m 8 is e d
+of_run : (a : Answer) (e : RunEnd) → Shows e a.status → OfRun a
+of_run a e (all_numbers is each) = inl is
+of_run a e (none_cut is any each) = inr (inl is)
+of_run a e (limited is any at) = inr (inr (inl is))
 
-ran : (a : Answer) (e : RunEnd) → a.finished ≡ Some e → OfRun a.status → RunsAtStatus a
-ran a e finished status = ((λ some. status), (λ s. ap is_some finished))
+no_run_at : {P : Type 0} (a : Answer) (m : ℕ) → a.status ≡ m → nat_eq m 0 ≡ false → nat_eq m 1 ≡ false → nat_eq m 4 ≡ false → nat_eq m 8 ≡ false → OfRun a → P
+no_run_at a m is w x y z (inl e) = other a.status m 0 is e w
+no_run_at a m is w x y z (inr (inl e)) = other a.status m 1 is e x
+no_run_at a m is w x y z (inr (inr (inl e))) = other a.status m 4 is e y
+no_run_at a m is w x y z (inr (inr (inr e))) = other a.status m 8 is e z
 
-not_run : (a : Answer) (m : ℕ) → IsNone a.finished → a.status ≡ m → nat_eq m 0 ≡ false → nat_eq m 1 ≡ false → nat_eq m 4 ≡ false → nat_eq m 8 ≡ false → RunsAtStatus a
-not_run a m none status b c d e = ((λ some. none_some a.finished none some), (λ s. no_run_at a.status m status b c d e s)) where
-  none_some : {P : Type 0} (o : Option RunEnd) → IsNone o → IsSome o → P
-  none_some None n s = cc
-  none_some (Some x) n s = cc
+not_trapped_or_cut : {P : Type 0} (a : Answer) (m : ℕ) → a.status ≡ m → nat_eq m 1 ≡ false → nat_eq m 4 ≡ false → (a.status ≡ 1) ⊎ (a.status ≡ 4) → P
+not_trapped_or_cut a m is x y (inl e) = other a.status m 1 is e x
+not_trapped_or_cut a m is x y (inr e) = other a.status m 4 is e y
 
-runs : (words : List (List ℕ)) (was is : ShelfSeen) (a : Answer) → Came words was is a → RunsAtStatus a
-runs words was is a (reported p e finished (all_numbers status each) fetched) = ran a e finished (inl status)
-runs words was is a (reported p e finished (none_cut status each) fetched) = ran a e finished (inr (inl status))
-runs words was is a (reported p e finished (limited status at) fetched) = ran a e finished (inr (inr (inl status)))
-runs words was is a (unwritten p e finished status fault fetched) = ran a e finished (inr (inr (inr status)))
-runs words was is a (wanted none status) = not_run a 9 none status refl refl refl refl
-runs words was is a (unasked none status choice) = not_run a 2 none status refl refl refl refl
-runs words was is a (unfetched none status name error choice fetched which) = not_run a 7 none status refl refl refl refl
-runs words was is a (unread none status name bytes choice fetched refused) = not_run a 5 none status refl refl refl refl
+where_run : (command : Command) (name : List ℕ) (a : Answer) → command ≡ Run → (e : RunEnd) → a.finished ≡ Some e → OfRun a → RunsAtStatus (Some (command, name)) a
+where_run command name a run e finished status = (((λ some. (run, status)), (λ h. ap is_some finished)), (λ h. run))
 
--- what a run's end is, by its status
-abbrev pub EndBy : ℕ → RunEnd → Type 0
-EndBy status e = (status ≡ 0 → Each e.roots IsNumber) × (status ≡ 1 → Each e.roots IsUncut) × (status ≡ 4 → e.accepted ≡ LIMIT)
+where_printed : (command : Command) (name : List ℕ) (a : Answer) (m : ℕ) → ¬ (command ≡ Run) → IsNone a.finished → a.status ≡ m → nat_eq m 1 ≡ false → nat_eq m 4 ≡ false
+    → RunsAtStatus (Some (command, name)) a
+where_printed command name a m plain none status x y = (((λ some. some_for_none a.finished some none), (λ h. absurd (plain h.0))), (λ h. not_trapped_or_cut a m status x y h))
 
-end_by : (a : Answer) (e : RunEnd) → a.finished ≡ Some e → EndBy a.status e → EndsByStatus a
-end_by a e finished by = subst (λ o. IfSome o (EndBy a.status)) (sym finished) by
+where_stopped : (choice : Option (Command × List ℕ)) (a : Answer) (m : ℕ) → IsNone a.finished → a.status ≡ m → nat_eq m 0 ≡ false → nat_eq m 1 ≡ false → nat_eq m 4 ≡ false → nat_eq m 8 ≡ false
+    → RunsAtStatus choice a
+where_stopped choice a m none status w x y z = (((λ some. some_for_none a.finished some none), (λ h. no_run_at a m status w x y z h.1)), (λ h. not_trapped_or_cut a m status x y h))
+
+runs : (command : Command) (name : List ℕ) (was is : ShelfSeen) (a : Answer) → Came command name was is a → RunsAtStatus (Some (command, name)) a
+runs command name was is a (ran run took e finished shows by_roots err) = where_run command name a run e finished (of_run a e shows)
+runs command name was is a (unreported run took e finished status fault) = where_run command name a run e finished (inr (inr (inr status)))
+runs command name was is a (printed plain took none status err) = where_printed command name a 0 plain none status refl refl
+runs command name was is a (unprinted plain took none status fault) = where_printed command name a 8 plain none status refl refl
+runs command name was is a (wanting q status) = where_stopped (Some (command, name)) a 9 q.no_run status refl refl refl refl
+runs command name was is a (refused q status error fetched which) = where_stopped (Some (command, name)) a 7 q.no_run status refl refl refl refl
+runs command name was is a (unfit q status text fetched not) = where_stopped (Some (command, name)) a 5 q.no_run status refl refl refl refl
+
+end_by : (a : Answer) (e : RunEnd) → a.finished ≡ Some e → IsStatusOf e a.status → EndsByStatus a
+end_by a e finished by = subst (λ o. IfSome o (λ x. IsStatusOf x a.status)) (sym finished) by
+
+shown : (e : RunEnd) (status : ℕ) → status ≡ status_of_ends e.roots → Shows e status → IsStatusOf e status
+shown e status by (all_numbers is each) = record {
+  zero = λ h. each;
+  one = λ h. other status 0 1 is h refl;
+  four = λ h. other status 0 4 is h refl;
+  by_roots = λ no. by;
+}
+shown e status by (none_cut is any each) = record {
+  zero = λ h. other status 1 0 is h refl;
+  one = λ h. (any, each);
+  four = λ h. other status 1 4 is h refl;
+  by_roots = λ no. by;
+}
+shown e status by (limited is any at) = record {
+  zero = λ h. other status 4 0 is h refl;
+  one = λ h. other status 4 1 is h refl;
+  four = λ h. (any, at);
+  by_roots = λ no. by;
+}
+
+-- at 8 nothing is said
+unshown : (e : RunEnd) (status : ℕ) → status ≡ 8 → IsStatusOf e status
+unshown e status is = record {
+  zero = λ h. other status 8 0 is h refl;
+  one = λ h. other status 8 1 is h refl;
+  four = λ h. other status 8 4 is h refl;
+  by_roots = λ no. absurd (no is);
+}
 
 no_end : (a : Answer) → IsNone a.finished → EndsByStatus a
 no_end a none = by a.finished none where
-  by : (o : Option RunEnd) → IsNone o → IfSome o (EndBy a.status)
+  by : (o : Option RunEnd) → IsNone o → IfSome o (λ x. IsStatusOf x a.status)
   by None n = tt
   by (Some x) n = cc
 
-ends : (words : List (List ℕ)) (was is : ShelfSeen) (a : Answer) → Came words was is a → EndsByStatus a
-ends words was is a (reported p e finished (all_numbers status each) fetched) = end_by a e finished ((λ h. each), (λ h. other a.status 0 1 status h refl), (λ h. other a.status 0 4 status h refl))
-ends words was is a (reported p e finished (none_cut status each) fetched) = end_by a e finished ((λ h. other a.status 1 0 status h refl), (λ h. each), (λ h. other a.status 1 4 status h refl))
-ends words was is a (reported p e finished (limited status at) fetched) = end_by a e finished ((λ h. other a.status 4 0 status h refl), (λ h. other a.status 4 1 status h refl), (λ h. at))
-ends words was is a (unwritten p e finished status fault fetched) = end_by a e finished ((λ h. other a.status 8 0 status h refl), (λ h. other a.status 8 1 status h refl), (λ h. other a.status 8 4 status h refl))
-ends words was is a (wanted none status) = no_end a none
-ends words was is a (unasked none status choice) = no_end a none
-ends words was is a (unfetched none status name error choice fetched which) = no_end a none
-ends words was is a (unread none status name bytes choice fetched refused) = no_end a none
+ends : (command : Command) (name : List ℕ) (was is : ShelfSeen) (a : Answer) → Came command name was is a → EndsByStatus a
+ends command name was is a (ran run took e finished shows by_roots err) = end_by a e finished (shown e a.status by_roots shows)
+ends command name was is a (unreported run took e finished status fault) = end_by a e finished (unshown e a.status status)
+ends command name was is a (printed plain took none status err) = no_end a none
+ends command name was is a (unprinted plain took none status fault) = no_end a none
+ends command name was is a (wanting q status) = no_end a q.no_run
+ends command name was is a (refused q status error fetched which) = no_end a q.no_run
+ends command name was is a (unfit q status text fetched not) = no_end a q.no_run
 
-pub reaches_two : (words : List (List ℕ)) (was is : ShelfSeen) (a : Answer) → Reaches words was is a → TwoForWords words a
-reaches_two words was is a r = two words was is a (came words was is a r)
+-- ---- where the words are refused
 
-pub reaches_five : (words : List (List ℕ)) (was is : ShelfSeen) (a : Answer) → Reaches words was is a → FiveForText words was is a
-reaches_five words was is a r = five words was is a (came words was is a r)
+none_causes : (was is : ShelfSeen) (a : Answer) → Quiet a → a.status ≡ 2 → StatusHasCause None was is a
+none_causes was is a q status = record {
+  ends = no_end a q.no_run;
+  runs = where_stopped None a 2 q.no_run status refl refl refl refl;
+  zero_printed = λ h. other a.status 2 0 status h refl;
+  run_suited = tt;
+  two = ((λ h. refl), (λ h. status));
+  five = λ h. other a.status 2 5 status h refl;
+  seven = λ h. other a.status 2 7 status h refl;
+  eight = λ h. other a.status 2 8 status h refl;
+  quiet = λ h. q.out;
+  silent = λ h. not_done_at a 2 status refl refl refl h;
+}
 
-pub reaches_seven : (words : List (List ℕ)) (was is : ShelfSeen) (a : Answer) → Reaches words was is a → SevenForFetch words was is a
-reaches_seven words was is a r = seven words was is a (came words was is a r)
-
-pub reaches_eight : (words : List (List ℕ)) (was is : ShelfSeen) (a : Answer) → Reaches words was is a → EightForOut a
-reaches_eight words was is a r = eight words was is a (came words was is a r)
-
-pub reaches_run : (words : List (List ℕ)) (was is : ShelfSeen) (a : Answer) → Reaches words was is a → RunsAtStatus a
-reaches_run words was is a r = runs words was is a (came words was is a r)
-
-pub reaches_end : (words : List (List ℕ)) (was is : ShelfSeen) (a : Answer) → Reaches words was is a → EndsByStatus a
-reaches_end words was is a r = ends words was is a (came words was is a r)
+pub status_has_cause : (choice : Option (Command × List ℕ)) (was is : ShelfSeen) (a : Answer) → Does choice was is a → StatusHasCause choice was is a
+status_has_cause None was is a (same, h) = none_causes was is a (quiet_stop stop.WordsRefused _ a h) h.told.status_is
+status_has_cause (Some (command, name)) was is a h = let c = came command name was is a h in record {
+  ends = ends command name was is a c;
+  runs = runs command name was is a c;
+  zero_printed = zero_printed command name was is a c;
+  run_suited = run_suited command name was is a c;
+  two = two command name was is a c;
+  five = five command name was is a c;
+  seven = seven command name was is a c;
+  eight = eight command name was is a c;
+  quiet = quiet command name was is a c;
+  silent = silent command name was is a c;
+}

@@ -1,11 +1,20 @@
--- What the words of the command line ask for.
-use Rattle.std.specs.Prelude.{ℕ, List, [], ◌∷◌, Option, Some, None, cond, codes, bytes_eq, unwrap_or}
+-- What the words of the command line ask for: a command, and the name of the program's file.
+use Rattle.std.specs.Prelude.{ℕ, List, [], ◌∷◌, Option, Some, None, codes, bytes_eq, option_map, if◌then◌else◌}
+use Rattle.ktask_cli.specs.declared.choice.Command.{Command}
+use Rattle.ktask_cli.specs.declared.choice.Command.TheVariants.{Run, Check}
 
--- `run` and the name of the program's file; all else is refused
-abbrev pub choice_of : List (List ℕ) → Option (List ℕ)
-choice_of (command ∷ program ∷ []) = cond (bytes_eq command (codes "run")) (Some program) None
+abbrev pub command_of : List ℕ → Option Command
+command_of word =
+    if bytes_eq word (codes "run") then Some Run else (
+    if bytes_eq word (codes "check") then Some Check else None)
+
+-- a command and one more word; all else is refused
+abbrev pub choice_of : List (List ℕ) → Option (Command × List ℕ)
+choice_of (word ∷ program ∷ []) = option_map (λ command. (command, program)) (command_of word)
 choice_of _ = None
 
--- the file that the words name, or no name
-abbrev pub file_of : List (List ℕ) → List ℕ
-file_of words = unwrap_or (choice_of words) []
+-- the same without a run
+abbrev pub plain_of : Option (Command × List ℕ) → Option (Command × List ℕ)
+plain_of None = None
+plain_of (Some (Run, program)) = None
+plain_of (Some (Check, program)) = Some (Check, program)

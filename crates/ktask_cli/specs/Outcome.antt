@@ -1,16 +1,18 @@
--- How the tool ends: what it answers, and what the two sinks took.
-use Rattle.std.specs.Prelude.{◌≡◌, ℕ, ◌⊎◌, List, [], Option, Some, None, Result, Ok, Err}
+-- How a command ends: what it answers, and what the two sinks took.
+use Rattle.std.specs.Prelude.{◌≡◌, ℕ, ◌⊎◌, List, [], Option, Some, None, Result, MatchResult, IsNone}
 use Rattle.std.specs.Io.KnownBytes.{Appends}
+use Rattle.task_syntax.specs.Columns.{no_columns}
 use Rattle.task_syntax.specs.declared.program.Program.{Program}
 use Rattle.plain_engine.specs.RunEnd.{RunEnd}
 use Rattle.plain_engine.specs.SoundEnd.{IsSoundEnd}
+use Rattle.ktask_cli.specs.declared.choice.Command.{Command}
+use Rattle.ktask_cli.specs.declared.choice.Command.TheVariants.{Run, Check}
 use Rattle.ktask_cli.specs.declared.stop.Stop.{Stop}
-use Rattle.ktask_cli.specs.declared.stop.Stop.TheVariants.{WriteFault, WantOfMemory}
-use Rattle.ktask_cli.specs.Choice.{choice_of, file_of}
+use Rattle.ktask_cli.specs.declared.stop.Stop.TheVariants.{WordsRefused, WriteFault}
 use Rattle.ktask_cli.specs.Count.{Rose}
-use Rattle.ktask_cli.specs.Plan.{Follows, plan_of}
-use Rattle.ktask_cli.specs.Ready.{ready_in}
-use Rattle.ktask_cli.specs.Refusal.{Tells, Refuses}
+use Rattle.ktask_cli.specs.Plan.{Plan}
+use Rattle.ktask_cli.specs.Ready.{valid_under, sizes_under}
+use Rattle.ktask_cli.specs.Refusal.{Tells, Told}
 use Rattle.ktask_cli.specs.Report.{report_of, status_of_ends}
 use Rattle.ktask_cli.specs.Seen.{ShelfSeen, SinkSeen}
 use Rattle.ktask_cli.specs.Sink.{AppendsPrefix}
@@ -24,36 +26,6 @@ pub record Answer : Type 0 where
   pub err_was : SinkSeen
   pub err_is : SinkSeen
 
--- the report was taken, and the status is that of the roots
-pub record Reports (p : Program) (e : RunEnd) (a : Answer) : Type 0 where
-  pub status : a.status ≡ status_of_ends e.roots
-  pub out : Appends a.out_was.taken a.out_is.taken (report_of p e)
-  pub err : a.err_is ≡ a.err_was
-
--- a front of the report was taken, since the sink had a fault
-pub record FailsToReport (p : Program) (e : RunEnd) (a : Answer) : Type 0 where
-  pub out : AppendsPrefix a.out_was.taken a.out_is.taken (report_of p e)
-  pub fault : Rose a.out_was.faults a.out_is.faults
-  pub told : Tells WriteFault [] a.status a.err_was a.err_is
-
--- the program was run, its end is sound, and its report was offered
-pub record Runs (p : Program) (a : Answer) : Type 0 where
-  pub end : RunEnd
-  pub finished : a.finished ≡ Some end
-  pub sound : IsSoundEnd p end
-  pub offered : Reports p end a ⊎ FailsToReport p end a
-
-abbrev pub RefusedFor : Stop → List ℕ → Answer → Type 0
-RefusedFor cause name a = Refuses cause name a.status a.finished a.out_was a.out_is a.err_was a.err_is
-
--- nothing was run, and the reason was told, or want of memory for its line
-abbrev pub Stops : Stop → List ℕ → Answer → Type 0
-Stops stop name a = RefusedFor stop name a ⊎ RefusedFor WantOfMemory name a
-
-abbrev pub Concludes : Result Program Stop → List ℕ → Answer → Type 0
-Concludes (Ok p) name a = Runs p a
-Concludes (Err stop) name a = Stops stop name a
-
 abbrev pub answer : ℕ → Option RunEnd → SinkSeen → SinkSeen → SinkSeen → SinkSeen → Answer
 answer status finished out_was out_is err_was err_is = record {
   status = status;
@@ -64,8 +36,48 @@ answer status finished out_was out_is err_was err_is = record {
   err_is = err_is;
 }
 
--- the shelf was asked by the plan of these words alone, and the answer is what the plan came to
-pub record Reaches (words : List (List ℕ)) (was is : ShelfSeen) (a : Answer) : Type 0 where
-  pub reached : Result Program Stop
-  pub follows : Follows (plan_of ready_in (choice_of words)) was is reached
-  pub concludes : Concludes reached (file_of words) a
+-- `out` took the whole text, and the status is the one that is due then
+pub record Takes (text : List ℕ) (status : ℕ) (a : Answer) : Type 0 where
+  pub status_is : a.status ≡ status
+  pub out : Appends a.out_was.taken a.out_is.taken text
+  pub err : a.err_is ≡ a.err_was
+
+-- `out` took a front of the text, since it had a fault, which was told
+pub record TakesFront (text : List ℕ) (a : Answer) : Type 0 where
+  pub out : AppendsPrefix a.out_was.taken a.out_is.taken text
+  pub fault : Rose a.out_was.faults a.out_is.faults
+  pub told : Tells WriteFault [] a.status a.err_was a.err_is
+
+-- the text was offered on `out`
+abbrev pub Writes : List ℕ → ℕ → Answer → Type 0
+Writes text status a = Takes text status a ⊎ TakesFront text a
+
+-- the program was run without columns, its end is sound, and its report was offered, with the status of its roots
+pub record Runs (p : Program) (a : Answer) : Type 0 where
+  pub end : RunEnd
+  pub finished : a.finished ≡ Some end
+  pub sound : IsSoundEnd p no_columns end
+  pub offered : Writes (report_of p end) (status_of_ends end.roots) a
+
+-- nothing was run, and the text was offered, with status 0
+pub record Prints (text : List ℕ) (a : Answer) : Type 0 where
+  pub no_run : IsNone a.finished
+  pub offered : Writes text 0 a
+
+-- nothing was run or printed, and the reason was told
+pub record Stops (stop : Stop) (name : List ℕ) (a : Answer) : Type 0 where
+  pub no_run : IsNone a.finished
+  pub out : a.out_is ≡ a.out_was
+  pub told : Told stop name a.status a.err_was a.err_is
+
+-- the shelf was asked by the plan alone, and the command ended with what the plan came to
+pub record Reaches {Ready : Type 0} (plan : Plan Ready) (Ends : Ready → Answer → Type 0) (name : List ℕ) (was is : ShelfSeen) (a : Answer) : Type 0 where
+  pub reached : Result Ready Stop
+  pub follows : plan was is reached
+  pub ended : MatchResult reached (λ ready. Ends ready a) (λ stop. Stops stop name a)
+
+-- what is done for a choice; where the words are refused, the shelf is not asked
+abbrev pub Does : Option (Command × List ℕ) → ShelfSeen → ShelfSeen → Answer → Type 0
+Does None was is a = (is ≡ was) × Stops WordsRefused [] a
+Does (Some (Run, name)) was is a = Reaches (valid_under name) Runs name was is a
+Does (Some (Check, name)) was is a = Reaches (sizes_under name) Prints name was is a

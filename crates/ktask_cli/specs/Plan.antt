@@ -1,26 +1,32 @@
 -- The order in which a command fetches its files and meets its refusals.
-use Rattle.std.specs.Prelude.{◌≡◌, ℕ, ◌⊎◌, List, Result, Err, MatchResult, Option, Some, None}
+use Rattle.std.specs.Prelude.{◌≡◌, ℕ, ◌⊎◌, List, Result, Ok, Err, MatchResult}
+use Rattle.std.specs.Result.{result_map_both}
 use Rattle.ktask_cli.specs.declared.fetch_error.FetchError.{FetchError}
 use Rattle.ktask_cli.specs.declared.stop.InputFile.{InputFile}
-use Rattle.ktask_cli.specs.declared.stop.InputFile.TheVariants.{Program}
 use Rattle.ktask_cli.specs.declared.stop.Stop.{Stop}
-use Rattle.ktask_cli.specs.declared.stop.Stop.TheVariants.{WordsRefused, WantOfMemory}
+use Rattle.ktask_cli.specs.declared.stop.Stop.TheVariants.{WantOfMemory}
 use Rattle.ktask_cli.specs.Seen.{ShelfSeen, Fetches}
 use Rattle.ktask_cli.specs.Stop.{fetch_stop}
 
--- what is ready in the end, or the reason to stop; before that, the files to fetch, one after the other
-pub data Plan (Ready : Type 0) : Type 0 where
-  Leads : Result Ready Stop → Plan Ready
-  Asks : InputFile → List ℕ → (List ℕ → Plan Ready) → Plan Ready
+-- what a part of a command leaves of the shelf, and what it comes to: something that is ready, or a reason to stop
+abbrev pub Plan : Type 0 → Type 1
+Plan Ready = ShelfSeen → ShelfSeen → Result Ready Stop → Type 0
 
--- the shelf was asked by the plan alone and the plan's end was reached, or memory ran out on the way
-abbrev pub Follows : {Ready : Type 0} → Plan Ready → ShelfSeen → ShelfSeen → Result Ready Stop → Type 0
-Follows (Leads end) was is result = (is ≡ was) × ((result ≡ Err WantOfMemory) ⊎ (result ≡ end))
-Follows (Asks which name next) was is result = ((is ≡ was) × (result ≡ Err WantOfMemory))
-    ⊎ ((middle : ShelfSeen) × (answer : Result (List ℕ) FetchError) × Fetches was middle name answer
-    × MatchResult answer (λ bytes. Follows (next bytes) middle is result) (λ error. (is ≡ middle) × (result ≡ Err (fetch_stop which error))))
+-- one part and then another: where the first stops, the second has no part in it
+infixl 10 ◌>>=◌
+unfoldable pub ◌>>=◌ : {A B : Type 0} → Plan A → (A → Plan B) → Plan B
+◌>>=◌ {A} first next was is result = (middle : ShelfSeen) × (answer : Result A Stop) × first was middle answer
+    × MatchResult answer (λ ready. next ready middle is result) (λ stop. (is ≡ middle) × (result ≡ Err stop))
 
--- the program that was chosen is fetched and then read; where the words are refused nothing is
-abbrev pub plan_of : {Ready : Type 0} → (List ℕ → Result Ready Stop) → Option (List ℕ) → Plan Ready
-plan_of read None = Leads (Err WordsRefused)
-plan_of read (Some name) = Asks Program name (λ bytes. Leads (read bytes))
+-- one fetch of the file, and its content, or the reason why there is none
+unfoldable pub content_of : InputFile → List ℕ → Plan (List ℕ)
+content_of which name was is result =
+    (answer : Result (List ℕ) FetchError) × Fetches was is name answer × (result ≡ result_map_both (λ bytes. bytes) (fetch_stop which) answer)
+
+-- P holds of the result, or memory ran out
+abbrev pub OrWants : {Ready : Type 0} → (Result Ready Stop → Type 0) → Result Ready Stop → Type 0
+OrWants P result = (result ≡ Err WantOfMemory) ⊎ P result
+
+-- the shelf is not asked, and P holds of the result, or memory ran out
+unfoldable pub judged : {Ready : Type 0} → (Result Ready Stop → Type 0) → Plan Ready
+judged P was is result = (is ≡ was) × OrWants P result

@@ -1,7 +1,7 @@
--- How a command ends where it stops.
-use Rattle.std.specs.Prelude.{◌≡◌, ℕ, ◌⊎◌, List, Option, IsNone}
+-- How the reason for which a command stops is told.
+use Rattle.std.specs.Prelude.{◌≡◌, ℕ, ◌⊎◌, List}
 use Rattle.ktask_cli.specs.declared.stop.Stop.{Stop}
-use Rattle.ktask_cli.specs.declared.stop.Stop.TheVariants.{WantOfMemory}
+use Rattle.ktask_cli.specs.declared.stop.Stop.TheVariants.{CannotRead, TooLong, WantOfMemory}
 use Rattle.ktask_cli.specs.Seen.{SinkSeen, Offers}
 use Rattle.ktask_cli.specs.Stop.{status_of, line_of}
 
@@ -14,8 +14,8 @@ pub record Tells (cause : Stop) (name : List ℕ) (status : ℕ) (was is : SinkS
 abbrev pub TellsOrWants : Stop → List ℕ → ℕ → SinkSeen → SinkSeen → Type 0
 TellsOrWants cause name status was is = Tells cause name status was is ⊎ Tells WantOfMemory name status was is
 
--- nothing was run or printed, and the reason was told
-pub record Refuses {Finished : Type 0} (cause : Stop) (name : List ℕ) (status : ℕ) (finished : Option Finished) (out_was out_is err_was err_is : SinkSeen) : Type 0 where
-  pub no_run : IsNone finished
-  pub out : out_is ≡ out_was
-  pub told : Tells cause name status err_was err_is
+-- a line that names a file takes memory; each other one is told
+abbrev pub Told : Stop → List ℕ → ℕ → SinkSeen → SinkSeen → Type 0
+Told (CannotRead which) name status was is = TellsOrWants (CannotRead which) name status was is
+Told (TooLong which) name status was is = TellsOrWants (TooLong which) name status was is
+Told cause name status was is = Tells cause name status was is

@@ -4,10 +4,10 @@ use Rattle.std.specs.Result.{result_map_both}
 use Rattle.std.specs.Io.KnownBytes.{Appends}
 use Rattle.ktask_cli.specs.declared.fetch_error.FetchError.{FetchError}
 use Rattle.ktask_cli.specs.declared.fetch_error.FetchError.TheVariants.{TooLong}
-use Rattle.ktask_cli.specs.declared.fetch_file.TheConstants.{FILE_LIMIT}
 use Rattle.ktask_cli.specs.Count.{Rose}
 use Rattle.ktask_cli.specs.Fetch.{FailedOnlyByFault}
 use Rattle.ktask_cli.specs.Sink.{AppendsPrefix}
+use Rattle.ktask_cli.specs.Stop.{longest_file}
 
 pub record ShelfSeen : Type 0 where
   pub holds : List ℕ → Option (List ℕ)
@@ -29,8 +29,8 @@ sink_seen taken faults sink = record { taken = taken sink; faults = faults sink 
 -- one fetch of this name, and what it answered
 pub record Fetches (was is : ShelfSeen) (name : List ℕ) (answer : Result (List ℕ) FetchError) : Type 0 where
   pub content : IfOk answer (λ bytes. IfSome (was.holds name) (λ held. bytes ≡ held))
-  pub short : IfOk answer (λ bytes. length bytes ≤ FILE_LIMIT)
-  pub long : IsErrOf answer TooLong → IfSome (was.holds name) (λ held. FILE_LIMIT < length held)
+  pub short : IfOk answer (λ bytes. length bytes ≤ longest_file)
+  pub long : IsErrOf answer TooLong → IfSome (was.holds name) (λ held. longest_file < length held)
   pub kept : is.holds ≡ was.holds
   pub told : is.last ≡ Some (result_map_both (λ _. tt) (λ error. error) answer)
   pub cause : FailedOnlyByFault answer was.faults is.faults

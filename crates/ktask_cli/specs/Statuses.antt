@@ -1,44 +1,95 @@
--- When each exit status comes. Want of memory, 9, may come in the place of any of them but those of a run.
-use Rattle.std.specs.Prelude.{◌≡◌, ℕ, ◌<◌, ◌⊎◌, ◌↔◌, List, length, Option, Some, None, Result, Ok, Err, IsSome, IsErr, IfSome}
+-- When each exit status comes. Want of memory, 9, may come in the place of any of them but 2 and those of a run.
+use Rattle.std.specs.Prelude.{◌≡◌, ℕ, ◌<◌, ◌⊎◌, ◌↔◌, List, length, Option, Some, None, Ok, Err, IsOkAnd, IsSome, IfSome, IsTrue}
+use Rattle.std.specs.List.{list_any}
 use Rattle.task_syntax.specs.Places.{Each}
+use Rattle.task_syntax.specs.Valid.{IsValid}
+use Rattle.task_syntax.specs.declared.program.Program.{Program}
 use Rattle.task_syntax.specs.declared.value.Value.TheVariants.{Number, Trapped}
+use Rattle.task_reader.specs.Read.{program_in}
 use Rattle.plain_engine.specs.RunEnd.{RunEnd}
-use Rattle.plain_engine.specs.declared.end.TheConstants.{LIMIT}
+use Rattle.plain_engine.specs.SoundEnd.{most_activations}
 use Rattle.plain_engine.specs.declared.end.RootEnd.{RootEnd}
 use Rattle.plain_engine.specs.declared.end.RootEnd.TheVariants.{Value, Cut}
+use Rattle.ktask_cli.specs.declared.choice.Command.{Command}
+use Rattle.ktask_cli.specs.declared.choice.Command.TheVariants.{Run, Check}
 use Rattle.ktask_cli.specs.declared.fetch_error.FetchError.TheVariants.{Failed, TooLong}
-use Rattle.ktask_cli.specs.declared.fetch_file.TheConstants.{FILE_LIMIT}
-use Rattle.ktask_cli.specs.Choice.{choice_of, file_of}
 use Rattle.ktask_cli.specs.Count.{Rose}
 use Rattle.ktask_cli.specs.Outcome.{Answer}
-use Rattle.ktask_cli.specs.Ready.{ready_in}
+use Rattle.ktask_cli.specs.Report.{status_of_ends, is_trap, is_limit}
 use Rattle.ktask_cli.specs.Seen.{ShelfSeen}
+use Rattle.ktask_cli.specs.Stop.{longest_file}
 
--- 2 exactly where the words are refused
-abbrev pub TwoForWords : List (List ℕ) → Answer → Type 0
-TwoForWords words a = (a.status ≡ 2 → choice_of words ≡ None) × (choice_of words ≡ None → (a.status ≡ 2) ⊎ (a.status ≡ 9))
+-- the command takes a program: a run and `check` take a valid one
+abbrev pub Suits : Command → Program → Type 0
+Suits Run program = IsValid program
+Suits Check program = IsValid program
 
--- 5 only where the file was fetched and its text is refused
-abbrev pub FiveForText : List (List ℕ) → ShelfSeen → ShelfSeen → Answer → Type 0
-FiveForText words was is a = a.status ≡ 5 → (text : List ℕ) × (is.last ≡ Some (Ok tt))
-    × IfSome (was.holds (file_of words)) (λ held. text ≡ held) × IsErr (ready_in text)
+-- the text is a program that the command takes
+abbrev pub SuitsText : Command → List ℕ → Type 0
+SuitsText command text = IsOkAnd (program_in text) (Suits command)
 
--- the last fetch was refused
+-- the last fetch gave its content, or was refused
+abbrev pub IsFetched : ShelfSeen → Type 0
+IsFetched shelf = shelf.last ≡ Some (Ok tt)
+
 abbrev pub IsRefused : ShelfSeen → Type 0
 IsRefused shelf = (shelf.last ≡ Some (Err Failed)) ⊎ (shelf.last ≡ Some (Err TooLong))
 
+-- this status, or want of memory
+abbrev pub IsOrWants : ℕ → Answer → Type 0
+IsOrWants status a = (a.status ≡ status) ⊎ (a.status ≡ 9)
+
+-- 2 exactly where the words are refused
+abbrev pub TwoForWords : Option (Command × List ℕ) → Answer → Type 0
+TwoForWords choice a = (a.status ≡ 2) ↔ (choice ≡ None)
+
+-- 5 exactly where the file was fetched and its text does not suit the command
+abbrev pub FiveForText : Option (Command × List ℕ) → ShelfSeen → ShelfSeen → Answer → Type 0
+FiveForText None was is a = ¬ (a.status ≡ 5)
+FiveForText (Some (command, name)) was is a =
+    (a.status ≡ 5 → IsFetched is × ((text : List ℕ) × IfSome (was.holds name) (λ held. text ≡ held) × ¬ SuitsText command text))
+    × (IsFetched is → IfSome (was.holds name) (λ held. ¬ SuitsText command held → IsOrWants 5 a))
+
 -- 7 exactly where the fetch was refused: the shelf had a fault, or the file is too long
-abbrev pub SevenForFetch : List (List ℕ) → ShelfSeen → ShelfSeen → Answer → Type 0
-SevenForFetch words was is a = (a.status ≡ 7 → IsRefused is × (Rose was.faults is.faults ⊎ IfSome (was.holds (file_of words)) (λ held. FILE_LIMIT < length held)))
-    × (IsSome (choice_of words) → IsRefused is → (a.status ≡ 7) ⊎ (a.status ≡ 9))
+abbrev pub SevenForFetch : Option (Command × List ℕ) → ShelfSeen → ShelfSeen → Answer → Type 0
+SevenForFetch None was is a = ¬ (a.status ≡ 7)
+SevenForFetch (Some (command, name)) was is a =
+    (a.status ≡ 7 → IsRefused is × (Rose was.faults is.faults ⊎ IfSome (was.holds name) (λ held. longest_file < length held)))
+    × (IsRefused is → IsOrWants 7 a)
 
 -- 8 only where `out` had a fault
 abbrev pub EightForOut : Answer → Type 0
 EightForOut a = a.status ≡ 8 → Rose a.out_was.faults a.out_is.faults
 
--- a run was reached exactly at 0, 1, 4 and 8
-abbrev pub RunsAtStatus : Answer → Type 0
-RunsAtStatus a = IsSome a.finished ↔ ((a.status ≡ 0) ⊎ ((a.status ≡ 1) ⊎ ((a.status ≡ 4) ⊎ (a.status ≡ 8))))
+-- 0 for a command other than a run whose text suits it, where `out` had no fault
+abbrev pub ZeroForPrinted : Option (Command × List ℕ) → ShelfSeen → ShelfSeen → Answer → Type 0
+ZeroForPrinted None was is a = ¬ (a.status ≡ 0)
+ZeroForPrinted (Some (command, name)) was is a = ¬ (command ≡ Run) → IsFetched is
+    → IfSome (was.holds name) (λ held. SuitsText command held → (¬ Rose a.out_was.faults a.out_is.faults) → IsOrWants 0 a)
+
+-- a run is reached for a text that suits it
+abbrev pub RunForSuited : Option (Command × List ℕ) → ShelfSeen → ShelfSeen → Answer → Type 0
+RunForSuited None was is a = Unit {0}
+RunForSuited (Some (command, name)) was is a = command ≡ Run → IsFetched is
+    → IfSome (was.holds name) (λ held. SuitsText command held → IsSome a.finished ⊎ (a.status ≡ 9))
+
+-- `out` took nothing at 2, 5, 7 and 9
+abbrev pub QuietWhereRefused : Answer → Type 0
+QuietWhereRefused a = (a.status ≡ 2) ⊎ ((a.status ≡ 5) ⊎ ((a.status ≡ 7) ⊎ (a.status ≡ 9))) → a.out_is ≡ a.out_was
+
+-- `err` took nothing at 0, 1 and 4
+abbrev pub SilentWhereDone : Answer → Type 0
+SilentWhereDone a = (a.status ≡ 0) ⊎ ((a.status ≡ 1) ⊎ (a.status ≡ 4)) → a.err_is ≡ a.err_was
+
+abbrev pub IsRun : Option (Command × List ℕ) → Type 0
+IsRun None = ⊥
+IsRun (Some (command, name)) = command ≡ Run
+
+-- a run was reached exactly where one is asked for and the status is 0, 1, 4 or 8; 1 and 4 come only for a run
+abbrev pub RunsAtStatus : Option (Command × List ℕ) → Answer → Type 0
+RunsAtStatus choice a =
+    (IsSome a.finished ↔ (IsRun choice × ((a.status ≡ 0) ⊎ ((a.status ≡ 1) ⊎ ((a.status ≡ 4) ⊎ (a.status ≡ 8))))))
+    × ((a.status ≡ 1) ⊎ (a.status ≡ 4) → IsRun choice)
 
 abbrev pub IsNumber : RootEnd → Type 0
 IsNumber (Value (Number n)) = Unit {0}
@@ -48,6 +99,26 @@ abbrev pub IsUncut : RootEnd → Type 0
 IsUncut (Value v) = Unit {0}
 IsUncut (Cut tag from) = ⊥
 
--- at 0 each root is a number; at 1 none is cut; at 4 the limit was met
+-- What a run's status says of its end: at 0 each root is a number; at 1 some root is a trap, and none is cut; at 4 some
+-- root is cut by the limit, which was met. All but 8 is the status of the roots.
+pub record IsStatusOf (e : RunEnd) (status : ℕ) : Type 0 where
+  pub zero : status ≡ 0 → Each e.roots IsNumber
+  pub one : status ≡ 1 → IsTrue (list_any is_trap e.roots) × Each e.roots IsUncut
+  pub four : status ≡ 4 → IsTrue (list_any is_limit e.roots) × (e.accepted ≡ most_activations)
+  pub by_roots : ¬ (status ≡ 8) → status ≡ status_of_ends e.roots
+
 abbrev pub EndsByStatus : Answer → Type 0
-EndsByStatus a = IfSome a.finished (λ (e : RunEnd). (a.status ≡ 0 → Each e.roots IsNumber) × (a.status ≡ 1 → Each e.roots IsUncut) × (a.status ≡ 4 → e.accepted ≡ LIMIT))
+EndsByStatus a = IfSome a.finished (λ e. IsStatusOf e a.status)
+
+-- each status of an answer comes for its causes
+pub record StatusHasCause (choice : Option (Command × List ℕ)) (was is : ShelfSeen) (a : Answer) : Type 0 where
+  pub ends : EndsByStatus a
+  pub runs : RunsAtStatus choice a
+  pub zero_printed : ZeroForPrinted choice was is a
+  pub run_suited : RunForSuited choice was is a
+  pub two : TwoForWords choice a
+  pub five : FiveForText choice was is a
+  pub seven : SevenForFetch choice was is a
+  pub eight : EightForOut a
+  pub quiet : QuietWhereRefused a
+  pub silent : SilentWhereDone a

@@ -1,15 +1,17 @@
 -- The reasons to stop: the exit status and the line of each.
 use Rattle.std.specs.Prelude.{ℕ, List, [], ◌∷◌, ◌++◌, codes, decimal, ◌==◌, if◌then◌else◌}
+use Rattle.task_check.specs.declared.fault.Cause.{Cause}
+use Rattle.task_check.specs.Causes.{code_of, word_of, names_future}
 use Rattle.ktask_cli.specs.declared.stop.InputFile.{InputFile}
 use Rattle.ktask_cli.specs.declared.stop.Stop.{Stop}
-use Rattle.ktask_cli.specs.declared.stop.Stop.TheVariants.{WordsRefused, CannotRead, TooLong, ProgramFault, NotFirstForm, WriteFault, WantOfMemory}
+use Rattle.ktask_cli.specs.declared.stop.Stop.TheVariants.{WordsRefused, CannotRead, TooLong, ProgramFault, CheckFault, WriteFault, WantOfMemory}
 use Rattle.ktask_cli.specs.declared.fetch_error.FetchError.{FetchError}
 use Rattle.ktask_cli.specs.declared.fetch_error.FetchError.TheVariants as fetch
 
 abbrev pub status_of : Stop → ℕ
 status_of WordsRefused = 2
 status_of (ProgramFault cause line word) = 5
-status_of NotFirstForm = 5
+status_of (CheckFault cause line name) = 5
 status_of (CannotRead which) = 7
 status_of (TooLong which) = 7
 status_of WriteFault = 8
@@ -33,14 +35,23 @@ cause_name cause =
     if cause == 9 then codes "NoEnd" else (
     if cause == 10 then codes "BackLabel" else codes "WordsLeft")))))))))
 
+-- the greatest length of a file that is read
+abbrev pub longest_file : ℕ
+longest_file = 16777216
+
+-- the name of a future is printed with an `@`
+abbrev pub printed_name : Cause → List ℕ → List ℕ
+printed_name cause name = if names_future cause then codes "@" ++ name else name
+
 -- what is said of the reason, where `name` is the file's
 abbrev pub line_of : List ℕ → Stop → List ℕ
 line_of name WordsRefused = ended (codes "ktask: words refused, see ktask help")
 line_of name (ProgramFault cause line word) =
     ended (codes "ktask: program line " ++ decimal line ++ codes " word " ++ decimal word ++ codes " cause " ++ decimal cause ++ codes " " ++ cause_name cause)
-line_of name NotFirstForm = ended (codes "ktask: program not of the first form")
+line_of name (CheckFault cause line named) =
+    ended (codes "ktask: program line " ++ decimal line ++ codes " check " ++ decimal (code_of cause) ++ codes " " ++ word_of cause ++ codes " " ++ printed_name cause named)
 line_of name (CannotRead which) = ended (codes "ktask: cannot read " ++ name)
-line_of name (TooLong which) = ended (codes "ktask: " ++ name ++ codes " is longer than 16777216 bytes")
+line_of name (TooLong which) = ended (codes "ktask: " ++ name ++ codes " is longer than " ++ decimal longest_file ++ codes " bytes")
 line_of name WriteFault = ended (codes "ktask: write fault")
 line_of name WantOfMemory = ended (codes "ktask: want of memory")
 

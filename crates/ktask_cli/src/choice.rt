@@ -1,22 +1,40 @@
-ghost use Rattle.std.specs.Prelude.{◌≡◌, map, option_copied, string_bytes};
-ghost use Rattle.ktask_cli.specs.Choice.{choice_of, file_of};
+ghost use Rattle.std.specs.Prelude.{◌≡◌, map, option_map, string_bytes};
+ghost use Rattle.ktask_cli.specs.Choice.{choice_of, command_of};
 
-/// The program's file, where the words ask for a run, and none where they are refused.
-pub fn choose(words: &[String]) -> Option<&str>
-    ensures { option_copied result ≡ choice_of (map string_bytes words.now) }
+/// What the tool does with a program.
+#[derive(Clone, Copy, Debug, PartialEq, Eq)]
+pub enum Command {
+    Run,
+    Check,
+}
+
+/// What the words ask for: a command, and the name of the program's file.
+#[derive(Clone, Copy, Debug)]
+pub struct Choice<'w> {
+    pub command: Command,
+    pub program: &'w str,
+}
+
+fn command_of(word: &str) -> Option<Command>
+    ensures { result ≡ command_of word.now }
 {
-    match words {
-        [command, program] if command.as_str() == "run" => Some(program.as_str()),
+    match word {
+        "run" => Some(Command::Run),
+        "check" => Some(Command::Check),
         _ => None,
     }
 }
 
-/// The name of the file that the words ask for, and an empty one where they are refused.
-pub fn file_name(words: &[String]) -> &str
-    ensures { result.now ≡ file_of (map string_bytes words.now) }
+/// What the words ask for, and none where they are refused.
+pub fn choose(words: &[String]) -> Option<Choice<'_>>
+    ensures { option_map (λ choice. (choice.command, choice.program.now)) result ≡ choice_of (map string_bytes words.now) }
 {
-    match choose(words) {
-        Some(name) => name,
-        None => "",
-    }
+    let [word, program] = words else {
+        return None;
+    };
+    let command = command_of(word.as_str())?;
+    Some(Choice {
+        command,
+        program: program.as_str(),
+    })
 }

@@ -1,10 +1,9 @@
-ghost use Rattle.std.specs.Prelude.{◌≤◌, Ok, IfOk, length, map, string_bytes};
+ghost use Rattle.std.specs.Prelude.{◌≤◌, IfOk, length};
 ghost use Rattle.std.specs.Result.{result_map_both};
-ghost use Rattle.ktask_cli.specs.Choice.{choice_of};
-ghost use Rattle.ktask_cli.specs.Plan.{Follows, plan_of, Leads, Asks};
+ghost use Rattle.ktask_cli.specs.Plan.{content_of};
 ghost use Rattle.ktask_cli.specs.Seen.{shelf_seen};
+ghost use Rattle.ktask_cli.specs.Stop.{longest_file};
 
-use crate::choice::choose;
 use crate::fetch_error::FetchError;
 use crate::shelf::Shelf;
 use crate::stop::{InputFile, Stop};
@@ -20,8 +19,8 @@ pub fn fetch_file<S: Shelf>(
     which: InputFile,
     name: &str,
 ) -> Result<Vec<u8>, Stop>
-    ensures short { IfOk result (λ bytes. length bytes.items ≤ FILE_LIMIT) }
-    ensures follows { Follows (Asks which name.now (λ bytes. Leads (Ok bytes)))
+    ensures short { IfOk result (λ bytes. length bytes.items ≤ longest_file) }
+    ensures follows { content_of which name.now
         (shelf_seen S.holds S.last S.faults shelf.old) (shelf_seen S.holds S.last S.faults shelf.new)
         (result_map_both (λ bytes. bytes.items) (λ stop. stop) result) }
 {
@@ -32,21 +31,4 @@ pub fn fetch_file<S: Shelf>(
         Err(FetchError::TooLong) => Err(Stop::TooLong(which)),
         Err(FetchError::Memory) => Err(Stop::WantOfMemory),
     }
-}
-
-/// Fetches the program that the words ask for.
-pub fn fetch_program<S: Shelf>(
-    alloc: Global,
-    words: &[String],
-    shelf: &mut S,
-) -> Result<Vec<u8>, Stop>
-    ensures short { IfOk result (λ bytes. length bytes.items ≤ FILE_LIMIT) }
-    ensures follows { Follows (plan_of Ok (choice_of (map string_bytes words.now)))
-        (shelf_seen S.holds S.last S.faults shelf.old) (shelf_seen S.holds S.last S.faults shelf.new)
-        (result_map_both (λ bytes. bytes.items) (λ stop. stop) result) }
-{
-    let Some(name) = choose(words) else {
-        return Err(Stop::WordsRefused);
-    };
-    fetch_file(alloc, shelf, InputFile::Program, name)
 }

@@ -1,9 +1,12 @@
 //! The tool itself: what it reads and writes through, and how it refuses.
 #![tactic(auto)]
 
+#[cfg(test)]
+mod check_tests;
 pub mod choice;
 mod count;
 pub mod error;
+mod fault_line;
 pub mod fetch_error;
 pub mod fetch_file;
 pub mod file_shelf;
@@ -12,11 +15,13 @@ pub mod memory_shelf;
 pub mod memory_sink;
 pub mod out_sink;
 pub mod outcome;
-mod prepare;
+mod plain;
+mod program;
 pub mod put;
 mod read_up_to;
 pub mod refuse;
 pub mod report;
+mod root_line;
 pub mod shelf;
 pub mod sink;
 pub mod stop;
@@ -25,6 +30,8 @@ mod tests;
 mod tool;
 #[cfg(test)]
 mod tool_tests;
+mod write_text;
 
 pub use outcome::Outcome;
+pub use plain::plain_tool;
 pub use tool::run_tool;

@@ -7,8 +7,8 @@ ghost use Rattle.ktask_cli.specs.Report.{report_of, root_line, status_of_ends, i
 ghost use Rattle.ktask_cli.specs.Sink.{AppendsPrefix};
 
 use crate::error::Failed;
-use crate::line::made_line;
 use crate::put::put_all;
+use crate::root_line::made_line;
 use crate::sink::Sink;
 use plain_engine::{CutTag, PlainEnd, RootEnd};
 use task_syntax::{Name, Program, Value};

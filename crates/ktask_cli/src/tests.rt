@@ -1,6 +1,7 @@
+use crate::choice::{Command, choose};
 use crate::error::Failed;
 use crate::fetch_error::FetchError;
-use crate::fetch_file::{FILE_LIMIT, fetch_file, fetch_program};
+use crate::fetch_file::fetch_file;
 use crate::file_shelf::FileShelf;
 use crate::memory_shelf::MemoryShelf;
 use crate::memory_sink::MemorySink;
@@ -15,6 +16,8 @@ use std::alloc::{AllocError, Global};
 use std::io;
 use std::io::{Error, ErrorKind, Read, Write};
 use std::test::Fail;
+use task_check::Cause;
+use task_syntax::Name;
 
 fn text(alloc: Global, bytes: &str) -> Result<String, AllocError> {
     let mut text = String::new(alloc);
@@ -100,10 +103,10 @@ fn memory_sink_fails_as_told_and_where_its_room_ends(rt: HostRuntime) -> Result<
 
 // Takes one byte at a time, and fails at one of its writes.
 #[derive(Drop)]
-struct ByteWriter {
-    taken: Vec<u8>,
-    writes: u64,
-    fails_at: u64,
+pub(crate) struct ByteWriter {
+    pub(crate) taken: Vec<u8>,
+    pub(crate) writes: u64,
+    pub(crate) fails_at: u64,
 }
 
 impl Write for ByteWriter {
@@ -228,39 +231,35 @@ fn real_files_are_read(rt: HostRuntime) -> Result<(), Fail> {
 }
 
 #[test]
-fn words_and_files_are_met_in_order(rt: HostRuntime) -> Result<(), Fail> {
-    let mut shelf = small_shelf(&rt, &[])?;
-    let refused = Err(Stop::WordsRefused);
+fn words_are_a_command_and_one_more(rt: HostRuntime) -> Result<(), Fail> {
     let rows = [
-        (["run", "a"].as_slice(), Ok("one"), 1),
-        (
-            ["run", "c"].as_slice(),
-            Err(Stop::CannotRead(InputFile::Program)),
-            2,
-        ),
-        (["run"].as_slice(), refused, 2),
-        (["run", "a", "a"].as_slice(), refused, 2),
-        (["walk", "a"].as_slice(), refused, 2),
-        ([].as_slice(), refused, 2),
+        (["run", "a"].as_slice(), Some((Command::Run, "a"))),
+        (["check", "b"].as_slice(), Some((Command::Check, "b"))),
+        (["run"].as_slice(), None),
+        (["check", "a", "a"].as_slice(), None),
+        (["walk", "a"].as_slice(), None),
+        ([].as_slice(), None),
     ];
-    for (given, answer, calls) in rows {
+    for (given, wanted) in rows {
         let mut words = Vec::new(rt.alloc());
         for word in given {
             words.push(text(rt.alloc(), word)?)?;
         }
-        match (fetch_program(rt.alloc(), &words, &mut shelf), answer) {
-            (Ok(got), Ok(content)) => assert_eq!(rt; got.as_slice(), content.as_bytes()),
-            (Err(got), Err(stop)) => assert_eq!(rt; got, stop),
+        match (choose(&words), wanted) {
+            (Some(choice), Some((command, program))) => {
+                assert_eq!(rt; choice.command, command);
+                assert_eq!(rt; choice.program, program);
+            }
+            (None, None) => {}
             _ => assert!(rt; false),
         }
-        assert_eq!(rt; shelf.calls, calls);
     }
     Ok(())
 }
 
 #[test]
 fn a_file_has_at_most_sixteen_mebibytes(rt: HostRuntime) -> Result<(), Fail> {
-    for (len, is_read) in [(FILE_LIMIT, true), (FILE_LIMIT + 1, false)] {
+    for (len, is_read) in [(16_777_216, true), (16_777_217, false)] {
         let mut names = Vec::new(rt.alloc());
         names.push((
             text(rt.alloc(), "x.kt")?,
@@ -269,42 +268,56 @@ fn a_file_has_at_most_sixteen_mebibytes(rt: HostRuntime) -> Result<(), Fail> {
         let mut shelf = MemoryShelf::new(names, Vec::new(rt.alloc()));
         match fetch_file(rt.alloc(), &mut shelf, InputFile::Program, "x.kt") {
             Ok(content) => assert!(rt; is_read && content.len() as u64 == len),
-            Err(stop) => assert_eq!(rt;
-                (is_read, stop),
-                (false, Stop::TooLong(InputFile::Program))
-            ),
+            Err(stop) => assert!(rt; !is_read && matches!(stop, Stop::TooLong(InputFile::Program))),
         }
     }
     Ok(())
 }
 
+// Tells the reason on a sink with room for so many bytes, and answers the status and the sink.
+fn told(rt: &HostRuntime, stop: Stop, room: u64) -> Result<(u8, MemorySink), AllocError> {
+    match MemorySink::new(rt.alloc(), room, Vec::new(rt.alloc())) {
+        Ok(mut err) => {
+            let status = refuse(rt.alloc(), stop, "x.kt", &mut err);
+            Ok((status, err))
+        }
+        Err(_) => Err(AllocError),
+    }
+}
+
+// The reason at a place of the table below.
+fn stop_at(place: usize) -> Stop {
+    match place {
+        0 => Stop::WordsRefused,
+        1 => Stop::CannotRead(InputFile::Program),
+        2 => Stop::TooLong(InputFile::Program),
+        3 => Stop::CheckFault {
+            cause: Cause::FrameTooLarge,
+            line: u32::MAX,
+            name: Name::new(b"abcdefghijklmnopqrstuvwx"),
+        },
+        4 => Stop::WriteFault,
+        _ => Stop::WantOfMemory,
+    }
+}
+
 #[test]
 fn a_reason_is_told_in_one_piece(rt: HostRuntime) -> Result<(), Fail> {
-    let file = InputFile::Program;
     let rows = [
+        (2, "ktask: words refused, see ktask help\n"),
+        (7, "ktask: cannot read x.kt\n"),
+        (7, "ktask: x.kt is longer than 16777216 bytes\n"),
         (
-            Stop::WordsRefused,
-            2,
-            "ktask: words refused, see ktask help\n",
-        ),
-        (
-            Stop::NotFirstForm,
             5,
-            "ktask: program not of the first form\n",
+            "ktask: program line 4294967295 check 5 FrameTooLarge abcdefghijklmnopqrstuvwx\n",
         ),
-        (Stop::CannotRead(file), 7, "ktask: cannot read x.kt\n"),
-        (
-            Stop::TooLong(file),
-            7,
-            "ktask: x.kt is longer than 16777216 bytes\n",
-        ),
-        (Stop::WriteFault, 8, "ktask: write fault\n"),
-        (Stop::WantOfMemory, 9, "ktask: want of memory\n"),
+        (8, "ktask: write fault\n"),
+        (9, "ktask: want of memory\n"),
     ];
-    for (stop, status, line) in rows {
+    for (place, (status, line)) in rows.into_iter().enumerate() {
         for (room, taken, faults) in [(100, line, 0), (5, "", 1)] {
-            let mut err = MemorySink::new(rt.alloc(), room, Vec::new(rt.alloc()))?;
-            assert_eq!(rt; refuse(rt.alloc(), stop, "x.kt", &mut err), status);
+            let (got, err) = told(&rt, stop_at(place), room)?;
+            assert_eq!(rt; got, status);
             assert_eq!(rt; err.bytes.as_slice(), taken.as_bytes());
             assert_eq!(rt; err.calls, 1);
             assert_eq!(rt; err.faults, faults);

@@ -1,7 +1,8 @@
-use crate::fetch_file::FILE_LIMIT;
 use crate::memory_shelf::MemoryShelf;
 use crate::memory_sink::MemorySink;
-use crate::run_tool;
+use crate::out_sink::OutSink;
+use crate::tests::ByteWriter;
+use crate::{plain_tool, run_tool};
 use std::alloc::{AllocError, Global};
 use std::test::Fail;
 
@@ -20,6 +21,33 @@ const WIDE: &str = "ktask 1\nkind one\nstate start\n  set x 1\n  done x\nend\n";
 
 const MUL: &str =
     "ktask 1\nkind one\n  var x\nstate start\n  mul x 2 3\n  done x\nend\nroot r one\n";
+
+const ALL: &str = "ktask 1\nkind fib n\n  var x y @a @b @g\nstate start\n  if n < 2 goto small\n\
+    sub x n 1\n  sub y n 2\n  spawn @a fib x\n  spawn @b fib y\n  all @g @a @b\n  again sum behind @g\n\
+    label small\n  done n\nstate sum holds @a @b settled @a @b\n  get x @a\n  get y @b\n  add x x y\n\
+    done x\nend\nroot r fib 2\n";
+
+const EARLY_GET: &str =
+    "ktask 1\nkind leaf n\nstate start\n  done n\nend\nkind bad\n  var x @a\nstate start\n\
+    spawn @a leaf 1\n  get x @a\n  done x\nend\nroot r bad\n";
+
+const EARLY_STATE: &str =
+    "ktask 1\nkind leaf n\nstate start\n  done n\nend\nkind bad\n  var x @a\nstate start\n\
+    spawn @a leaf 1\n  again fin\nstate fin holds @a settled @a\n  done 1\nend\nroot r bad\n";
+
+const TOO_MANY: &str = "ktask 1\nkind one\nstate start\n  done 1\nend\nroot r one 5\n";
+
+const UNHELD: &str = "ktask 1\nkind k\n  var x @a\nstate s\n  get x @a\n  done x\nend\n";
+
+const UNSETTLED_ROOT: &str =
+    "ktask 1\nkind one\nstate start\n  done 1\nend\nkind reader @p\n  var x\n\
+    state start holds @p settled @p\n  get x @p\n  done x\nend\nroot p one\nroot s reader @p\n";
+
+const LARGE: &str = "ktask 1\nkind big\n\
+    var v0 v1 v2 v3 v4 v5 v6 v7 v8 v9 v10 v11 v12 v13 v14 v15 v16 v17 v18 v19 v20 v21 v22 v23 v24 v25 v26 v27 v28 v29 v30 v31\n\
+    var v32 v33 v34 v35 v36 v37 v38 v39 v40 v41 v42 v43 v44 v45 v46 v47 v48 v49 v50 v51 v52 v53 v54 v55 v56 v57 v58 v59 v60 v61 v62 v63\nstate s\n  done 0\nend\n";
+
+const TWO_ROOTS: &str = "ktask 1\nkind one\nstate start\n  done 1\nend\nroot r one\nroot s one\n";
 
 // The status, and what `out` and `err` took.
 #[derive(Drop)]
@@ -73,24 +101,45 @@ fn run_over(
 }
 
 #[test]
-fn programs_are_run_or_refused(rt: HostRuntime) -> Result<(), Fail> {
+fn programs_are_run_checked_or_refused(rt: HostRuntime) -> Result<(), Fail> {
+    let no_header = "ktask: program line 1 word 0 cause 2 NoHeader\n";
+    let unknown = "ktask: program line 4 word 2 cause 7 UnknownName\n";
+    let not_settled = "ktask: program line 10 check 2 NotSettled @a\n";
+    let state_needs = "ktask: program line 10 check 4 StateNeeds @a\n";
+    let bad_count = "ktask: program line 6 check 3 BadCount one\n";
+    let not_held = "ktask: program line 5 check 1 NotHeld @a\n";
+    let root_needs = "ktask: program line 13 check 4 StateNeeds @p\n";
+    let too_large = "ktask: program line 2 check 5 FrameTooLarge big\n";
     let rows = [
-        (ONE, 0, "root r 1\n", ""),
-        (ROOTS, 1, "root under trap overflow\nroot fine 7\n", ""),
-        (FIB, 0, "root r 55\n", ""),
-        ("ktask 1\n", 0, "", ""),
-        ("", 5, "", "ktask: program line 1 word 0 cause 2 NoHeader\n"),
+        ("run", ONE, 0, "root r 1\n", ""),
         (
-            WIDE,
-            5,
+            "run",
+            ROOTS,
+            1,
+            "root under trap overflow\nroot fine 7\n",
             "",
-            "ktask: program line 4 word 2 cause 7 UnknownName\n",
         ),
-        (MUL, 5, "", "ktask: program not of the first form\n"),
+        ("run", FIB, 0, "root r 55\n", ""),
+        ("run", "ktask 1\n", 0, "", ""),
+        ("run", "", 5, "", no_header),
+        ("run", WIDE, 5, "", unknown),
+        ("run", EARLY_GET, 5, "", not_settled),
+        ("run", MUL, 0, "root r 6\n", ""),
+        ("run", ALL, 0, "root r 1\n", ""),
+        ("check", ALL, 0, "kinds 1 roots 1\n", ""),
+        ("check", ROOTS, 0, "kinds 2 roots 2\n", ""),
+        ("check", "ktask 1\n", 0, "kinds 0 roots 0\n", ""),
+        ("check", "", 5, "", no_header),
+        ("check", EARLY_GET, 5, "", not_settled),
+        ("check", EARLY_STATE, 5, "", state_needs),
+        ("check", TOO_MANY, 5, "", bad_count),
+        ("check", UNHELD, 5, "", not_held),
+        ("check", UNSETTLED_ROOT, 5, "", root_needs),
+        ("check", LARGE, 5, "", too_large),
     ];
-    for (text, status, out, err) in rows {
+    for (command, text, status, out, err) in rows {
         let content = vec_of(rt.alloc(), text.as_bytes())?;
-        let told = run_over(rt.alloc(), &["run", "p"], content, &[])?;
+        let told = run_over(rt.alloc(), &[command, "p"], content, &[])?;
         assert_eq!(rt; told.status, status);
         assert_eq!(rt; told.out.bytes.as_slice(), out.as_bytes());
         assert_eq!(rt; told.err.bytes.as_slice(), err.as_bytes());
@@ -175,6 +224,21 @@ fn words_files_and_sinks_are_refused(rt: HostRuntime) -> Result<(), Fail> {
             "ktask: write fault\n",
             0,
         ),
+        (["check"].as_slice(), [].as_slice(), 2, words, 0),
+        (
+            ["check", "x.kt"].as_slice(),
+            [].as_slice(),
+            7,
+            "ktask: cannot read x.kt\n",
+            1,
+        ),
+        (
+            ["check", "p"].as_slice(),
+            [1].as_slice(),
+            8,
+            "ktask: write fault\n",
+            0,
+        ),
     ];
     for (given, fail, status, err, faults) in rows {
         let content = vec_of(rt.alloc(), ONE.as_bytes())?;
@@ -183,18 +247,84 @@ fn words_files_and_sinks_are_refused(rt: HostRuntime) -> Result<(), Fail> {
         assert_eq!(rt; told.out.bytes.as_slice(), b"".as_slice());
         assert_eq!(rt; told.err.bytes.as_slice(), err.as_bytes());
         assert_eq!(rt; told.shelf.faults, faults);
+        assert_eq!(rt; told.shelf.calls, if status == 2 { 0 } else { 1 });
     }
     Ok(())
 }
 
 #[test]
 fn a_program_has_at_most_sixteen_mebibytes(rt: HostRuntime) -> Result<(), Fail> {
-    let content = vec![in rt.alloc(); b'\n'; FILE_LIMIT as usize + 1]?;
+    let content = vec![in rt.alloc(); b'\n'; 16_777_217]?;
     let told = run_over(rt.alloc(), &["run", "p"], content, &[])?;
     assert_eq!(rt; told.status, 7);
     assert_eq!(rt;
         told.err.bytes.as_slice(),
         b"ktask: p is longer than 16777216 bytes\n".as_slice()
     );
+    Ok(())
+}
+
+// A shelf that has the text under the name p.
+fn shelf_of(alloc: Global, text: &str) -> Result<MemoryShelf, AllocError> {
+    let mut names = Vec::new(alloc);
+    names.push((string_of(alloc, "p")?, vec_of(alloc, text.as_bytes())?))?;
+    Ok(MemoryShelf::new(names, Vec::new(alloc)))
+}
+
+#[test]
+fn a_sink_of_single_bytes_gets_the_whole_report(rt: HostRuntime) -> Result<(), Fail> {
+    let mut shelf = shelf_of(rt.alloc(), TWO_ROOTS)?;
+    let words = vec![in rt.alloc(); string_of(rt.alloc(), "run")?, string_of(rt.alloc(), "p")?]?;
+    let mut out = OutSink::new(ByteWriter {
+        taken: Vec::new(rt.alloc()),
+        writes: 0,
+        fails_at: 0,
+    });
+    let mut err = sink(rt.alloc(), &[])?;
+    let outcome = run_tool(rt.alloc(), &words, &mut shelf, &mut out, &mut err);
+    assert_eq!(rt; outcome.status, 0);
+    assert_eq!(rt;
+        out.writer.taken.as_slice(),
+        b"root r 1\nroot s 1\n".as_slice()
+    );
+    assert_eq!(rt; err.calls, 0);
+    Ok(())
+}
+
+#[test]
+fn a_fetch_that_failed_is_not_tried_again(rt: HostRuntime) -> Result<(), Fail> {
+    for command in ["run", "check"] {
+        let mut shelf = shelf_of(rt.alloc(), ONE)?;
+        shelf.fail.push(1)?;
+        let words = vec![in rt.alloc();
+            string_of(rt.alloc(), command)?,
+            string_of(rt.alloc(), "p")?,
+        ]?;
+        let mut out = sink(rt.alloc(), &[])?;
+        let mut err = sink(rt.alloc(), &[1])?;
+        let outcome = run_tool(rt.alloc(), &words, &mut shelf, &mut out, &mut err);
+        assert_eq!(rt; outcome.status, 7);
+        assert_eq!(rt; shelf.calls, 1);
+        assert_eq!(rt; out.calls, 0);
+        assert_eq!(rt; err.faults, 1);
+        assert_eq!(rt; err.bytes.len(), 0);
+    }
+    Ok(())
+}
+
+#[test]
+fn the_plain_tool_does_all_but_runs(rt: HostRuntime) -> Result<(), Fail> {
+    for (command, status, text) in [("run", 2, ""), ("check", 0, "kinds 1 roots 1\n")] {
+        let mut shelf = shelf_of(rt.alloc(), ONE)?;
+        let words = vec![in rt.alloc();
+            string_of(rt.alloc(), command)?,
+            string_of(rt.alloc(), "p")?,
+        ]?;
+        let mut out = sink(rt.alloc(), &[])?;
+        let mut err = sink(rt.alloc(), &[])?;
+        let answer = plain_tool(rt.alloc(), &words, &mut shelf, &mut out, &mut err);
+        assert_eq!(rt; answer, status);
+        assert_eq!(rt; out.bytes.as_slice(), text.as_bytes());
+    }
     Ok(())
 }

@@ -1,8 +1,5 @@
-use Rattle.ktask_cli.proofs.Statuses.{reaches_end, reaches_run}
+use Rattle.ktask_cli.proofs.Statuses.{status_has_cause}
 use Rattle.ktask_cli.proofs.tool.run_tool.Goals as goal
 
-pub returns-clause-ends : goal.returns-clause-ends
-returns-clause-ends g c = reaches_end _ _ _ _ c.conclude.ensures
-
-pub returns-clause-runs : goal.returns-clause-runs
-returns-clause-runs g c = reaches_run _ _ _ _ c.conclude.ensures
+pub returns-clause-causes : goal.returns-clause-causes
+returns-clause-causes g c = status_has_cause _ _ _ _ c.do_command.ensures

@@ -1,0 +1,94 @@
+ghost use Rattle.std.specs.Prelude.{◌≡◌, None, map, string_bytes};
+ghost use Rattle.ktask_cli.specs.Choice.{choice_of, plain_of};
+ghost use Rattle.ktask_cli.specs.Outcome.{Does, Reaches, Prints, answer};
+ghost use Rattle.ktask_cli.specs.Ready.{sizes_line, sizes_under};
+ghost use Rattle.ktask_cli.specs.Seen.{shelf_seen, sink_seen};
+ghost use Rattle.ktask_cli.specs.Statuses.{StatusHasCause};
+
+use crate::choice::{Choice, Command, choose};
+use crate::line::Line;
+use crate::program::fetch_valid;
+use crate::refuse::refuse;
+use crate::shelf::Shelf;
+use crate::sink::Sink;
+use crate::stop::Stop;
+use crate::write_text::print;
+use itoa::Buffer;
+use std::alloc::Global;
+use task_syntax::Program;
+
+/// The line that tells how many kinds and roots a program has, with its line end.
+fn sizes_line(program: &Program) -> Line
+    ensures { result ≡ sizes_line program.now }
+{
+    let mut line = Line::new();
+    line.push(b"kinds ");
+    line.push(Buffer::new().format(program.kinds.len()).as_bytes());
+    line.push(b" roots ");
+    line.push(Buffer::new().format(program.roots.len()).as_bytes());
+    line.push(b"\n");
+    line
+}
+
+/// Checks the program under a name, and prints how many kinds and roots it has.
+fn print_sizes<S: Shelf, O: Sink, E: Sink>(
+    alloc: Global,
+    name: &str,
+    shelf: &mut S,
+    out: &mut O,
+    err: &mut E,
+) -> u8
+    ensures { Reaches (sizes_under name.now) Prints name.now
+        (shelf_seen S.holds S.last S.faults shelf.old) (shelf_seen S.holds S.last S.faults shelf.new)
+        (answer result None (sink_seen O.taken O.faults out.old) (sink_seen O.taken O.faults out.new) (sink_seen E.taken E.faults err.old) (sink_seen E.taken E.faults err.new)) }
+{
+    match fetch_valid(alloc, name, shelf) {
+        Ok(checked) => print(sizes_line(checked.program()).as_bytes(), out, err),
+        Err(stop) => refuse(alloc, stop, name, err),
+    }
+}
+
+fn do_plain<S: Shelf, O: Sink, E: Sink>(
+    alloc: Global,
+    words: &[String],
+    shelf: &mut S,
+    out: &mut O,
+    err: &mut E,
+) -> u8
+    ensures { Does (plain_of (choice_of (map string_bytes words.now)))
+        (shelf_seen S.holds S.last S.faults shelf.old) (shelf_seen S.holds S.last S.faults shelf.new)
+        (answer result None (sink_seen O.taken O.faults out.old) (sink_seen O.taken O.faults out.new) (sink_seen E.taken E.faults err.old) (sink_seen E.taken E.faults err.new)) }
+{
+    match choose(words) {
+        Some(
+            Choice {
+                command: Command::Check,
+                program,
+            },
+        ) => print_sizes(alloc, program, shelf, out, err),
+        _ => refuse(alloc, Stop::WordsRefused, "", err),
+    }
+}
+
+/// Does what the words ask for, where that is no run: `check PROGRAM` fetches, reads and checks the program, and
+/// prints how many kinds and roots it has. All other words are refused.
+///
+/// The exit status is 0 where it is done, 2 for words that are refused, 5 for a program that is, 7 for a file that
+/// cannot be read or is too long, 8 for a fault of `out`, and 9 for want of memory. Where it is not 0, one line on `err`
+/// says why.
+pub fn plain_tool<S: Shelf, O: Sink, E: Sink>(
+    alloc: Global,
+    words: &[String],
+    shelf: &mut S,
+    out: &mut O,
+    err: &mut E,
+) -> u8
+    ensures whole { Does (plain_of (choice_of (map string_bytes words.now)))
+        (shelf_seen S.holds S.last S.faults shelf.old) (shelf_seen S.holds S.last S.faults shelf.new)
+        (answer result None (sink_seen O.taken O.faults out.old) (sink_seen O.taken O.faults out.new) (sink_seen E.taken E.faults err.old) (sink_seen E.taken E.faults err.new)) }
+    ensures causes { StatusHasCause (plain_of (choice_of (map string_bytes words.now)))
+        (shelf_seen S.holds S.last S.faults shelf.old) (shelf_seen S.holds S.last S.faults shelf.new)
+        (answer result None (sink_seen O.taken O.faults out.old) (sink_seen O.taken O.faults out.new) (sink_seen E.taken E.faults err.old) (sink_seen E.taken E.faults err.new)) }
+{
+    do_plain(alloc, words, shelf, out, err)
+}
