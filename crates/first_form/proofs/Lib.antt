@@ -1,2 +1,0 @@
-pub mod FirstWays
-pub mod FirstForm
