@@ -1,0 +1,49 @@
+-- The superblock of a block that is out, and the pool after it was taken back.
+use Rattle.std.proofs.Common.{◌≡◌, ℕ, ◌/◌, ◌%◌, List, get_or, ◌∙◌, ap}
+use Rattle.std.proofs.lemmas.Option.{slice_get_within, get_or_from_slice_get}
+use Rattle.kt_words.specs.Capacity.{block_units}
+use Rattle.pool_core.specs.Blocks.{BlockState}
+use Rattle.pool_core.specs.Pool.{PoolState, IsOutAt, IsSound, with_superblock}
+use Rattle.pool_core.specs.Superblocks.{SuperblockState, taken_back}
+use Rattle.pool_core.proofs.Keeping.{IsKept_taken_back}
+use Rattle.pool_core.proofs.Sound.{IsSound-with}
+use Rattle.pool_core.proofs.Units.{place_of_unit, bit_of_unit}
+
+pub place_of : (pool : PoolState) (block : BlockState) (place bit : ℕ) (superblock : SuperblockState) → IsSound pool
+    → IsOutAt pool block place bit superblock → block.unit / pool.units ≡ place
+place_of pool block place bit superblock sound out =
+    let kept = sound.kept place superblock out.there in
+    ap (λ (b : BlockState). b.unit / pool.units) out.block_is
+    ∙ place_of_unit pool.units superblock.class place bit sound.unit_count kept.class_fits (kept.inside bit out.is_set)
+
+pub bit_of : (pool : PoolState) (block : BlockState) (place bit : ℕ) (superblock : SuperblockState) → IsSound pool
+    → IsOutAt pool block place bit superblock → block.unit % pool.units / block_units block.class ≡ bit
+bit_of pool block place bit superblock sound out =
+    let kept = sound.kept place superblock out.there in
+    ap (λ (b : BlockState). b.unit % pool.units / block_units b.class) out.block_is
+    ∙ bit_of_unit pool.units superblock.class place bit sound.unit_count kept.class_fits (kept.inside bit out.is_set)
+
+pub IsSound-taken_back : (pool : PoolState) (block : BlockState) (place bit : ℕ) (was : SuperblockState) → IsSound pool
+    → IsOutAt pool block place bit was → IsSound (with_superblock pool place (taken_back was bit))
+IsSound-taken_back pool block place bit was sound out =
+    IsSound-with pool place (taken_back was bit) sound (slice_get_within pool.superblocks place was out.there)
+    (IsKept_taken_back pool.units bit was (sound.kept place was out.there) out.is_set)
+
+-- what is read at the place of the block
+pub record IsFound (units unit unit_again class place bit : ℕ) (now superblock : SuperblockState) : Type 0 where
+  pub place_is : unit / units ≡ place
+  pub bit_is : unit_again % units / block_units class ≡ bit
+  pub now_is : now ≡ superblock
+
+pub found : (units : ℕ) (items : List SuperblockState) (block : BlockState) (place bit : ℕ) (now superblock : SuperblockState) (unit unit_again class : ℕ)
+    → IsSound (record { units = units; superblocks = items }) → IsOutAt (record { units = units; superblocks = items }) block place bit superblock
+    → unit ≡ block.unit → unit_again ≡ block.unit → class ≡ block.class → now ≡ get_or items (unit / units) now
+    → IsFound units unit unit_again class place bit now superblock
+found units items block place bit now superblock unit unit_again class sound out is_unit is_again is_class read =
+    let pool : PoolState = record { units = units; superblocks = items } in
+    let at : unit / units ≡ place = ap (λ u. u / units) is_unit ∙ place_of pool block place bit superblock sound out in
+    record {
+      place_is = at;
+      bit_is = ap (λ u. u % units / block_units class) is_again ∙ ap (λ k. block.unit % units / block_units k) is_class ∙ bit_of pool block place bit superblock sound out;
+      now_is = read ∙ ap (λ k. get_or items k now) at ∙ get_or_from_slice_get items place superblock now out.there;
+    }

@@ -1,0 +1,4 @@
+pub mod Blocks
+pub mod Choice
+pub mod Pool
+pub mod Superblocks

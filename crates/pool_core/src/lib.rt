@@ -1,0 +1,12 @@
+//! A pool of memory blocks for one thread: superblocks, each with blocks of one class at a time, and for each a count.
+#![tactic(auto)]
+
+mod block;
+mod choice;
+mod plain_pool;
+mod superblock;
+#[cfg(test)]
+mod tests;
+
+pub use block::Block;
+pub use plain_pool::PlainPool;

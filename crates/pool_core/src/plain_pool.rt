@@ -1,0 +1,117 @@
+ghost use Rattle.std.specs.Prelude.{◌≡◌, ◌↔◌, ℕ, ◌<◌, ◌≤◌, IfOk, IsNone, IfNone, IfSome, Some, length, slice_get};
+ghost use Rattle.pool_core.specs.Pool.{unused_pool, IsOut, Gives, Adds, TakesBack, Removes, HasNoRoom, IsSound};
+
+use crate::block::Block;
+use crate::choice::choose;
+use crate::superblock::Superblock;
+use kt_words::{Geometry, SuperWord};
+use std::alloc::{AllocError, Global};
+use std::marker::Model;
+
+/// A pool of blocks for one thread. A superblock changes its class only while none of its blocks is out.
+#[derive(Drop)]
+pub struct PlainPool {
+    geometry: Geometry,
+    superblocks: Vec<Superblock>,
+}
+
+impl Model for PlainPool {
+    ghost use Rattle.std.specs.Prelude.{◌≡◌, length};
+    ghost use Rattle.pool_core.specs.Pool.{PoolState, IsSound};
+
+    ghost Value = { PoolState };
+
+    ghost view = { λ p. record { units = p.geometry.units; superblocks = p.superblocks.items } };
+
+    ghost invariant = { λ p. IsSound (record { units = p.geometry.units; superblocks = p.superblocks.items }) };
+}
+
+impl PlainPool {
+    /// A pool from which no block was given yet.
+    pub fn new(alloc: Global, geometry: Geometry) -> Result<PlainPool, AllocError>
+        ensures unused { IfOk result (λ pool. pool ≡ unused_pool geometry.superblocks geometry.units) }
+        ensures sound { IfOk result (λ pool. IsSound pool) }
+    {
+        let mut superblocks = Vec::with_capacity(alloc, geometry.superblocks as usize)?;
+        for _place in 0..geometry.superblocks {
+            superblocks.push(Superblock::new(geometry.units))?;
+        }
+        Ok(PlainPool {
+            geometry,
+            superblocks,
+        })
+    }
+
+    /// Gives a block of a class, from the first superblock of this class with room, or else from the first empty one.
+    pub fn allocate(&mut self, class: u8) -> Option<Block>
+        requires { class ≤ 3 }
+        ensures some { IfSome result (λ block. Gives self.old class block self.new) }
+        ensures none { IsNone result ↔ HasNoRoom self.old class }
+        ensures unchanged { IfNone result (self.new ≡ self.old) }
+
+        ensures adds { IfSome result (λ block. Adds self.old block self.new) }
+        ensures sound { IsSound self.new }
+    {
+        let room = self.geometry.cap(class);
+        let place = choose(self.superblocks.as_slice(), class, room)?;
+        let superblock = &mut self.superblocks[place];
+        let bit = superblock.give(class, room);
+        let unit = place as u32 * self.geometry.units + (bit << class);
+        Some(Block::new(unit, class))
+    }
+
+    /// Takes back a block that this pool gave and that is still out.
+    pub fn release(&mut self, block: Block)
+        requires { IsOut self.old block }
+        ensures back { TakesBack self.old block self.new }
+
+        ensures removes { Removes self.old block self.new }
+        ensures sound { IsSound self.new }
+    {
+        let place = block.unit() / self.geometry.units;
+        let bit = block.unit() % self.geometry.units >> block.class();
+        let superblock = &mut self.superblocks[place as usize];
+        superblock.take_back(bit);
+    }
+
+    /// The class of a superblock: that of its blocks that are out, or else of the last that was.
+    pub fn class(&self, superblock: u32) -> u8
+        requires { superblock < length self.now.superblocks }
+        ensures { IfSome (slice_get self.now.superblocks superblock) (λ state. result ≡ state.class) }
+    {
+        self.superblocks[superblock as usize].class()
+    }
+
+    /// How many blocks of a superblock are out.
+    pub fn count(&self, superblock: u32) -> u32
+        requires { superblock < length self.now.superblocks }
+        ensures { IfSome (slice_get self.now.superblocks superblock) (λ state. result ≡ state.count) }
+    {
+        self.superblocks[superblock as usize].count()
+    }
+
+    /// How many blocks a superblock ever gave. It stays at its greatest value, 2^44 - 1.
+    pub fn ever(&self, superblock: u32) -> u64
+        requires { superblock < length self.now.superblocks }
+        ensures { IfSome (slice_get self.now.superblocks superblock) (λ state. result ≡ state.ever) }
+    {
+        self.superblocks[superblock as usize].ever()
+    }
+
+    /// Whether the block at a place of a superblock is out.
+    pub fn claimed(&self, superblock: u32, bit: u32) -> bool
+        requires superblock { superblock < length self.now.superblocks }
+        requires bit { bit < self.now.units }
+        ensures { IfSome (slice_get self.now.superblocks superblock) (λ state. slice_get state.set bit ≡ Some result) }
+    {
+        self.superblocks[superblock as usize].is_set(bit)
+    }
+
+    /// Class, count and ever of a superblock in one.
+    pub fn word(&self, superblock: u32) -> SuperWord
+        requires { superblock < length self.now.superblocks }
+        ensures { IfSome (slice_get self.now.superblocks superblock) (λ state. result ≡ record { count = state.count; class = state.class; ever = state.ever }) }
+    {
+        self.superblocks[superblock as usize].word()
+    }
+}

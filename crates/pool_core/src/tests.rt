@@ -1,0 +1,24 @@
+use crate::PlainPool;
+use kt_words::Geometry;
+use std::test::Fail;
+
+#[test]
+fn class_follows_the_last_block(rt: HostRuntime) -> Result<(), Fail> {
+    let geometry = Geometry::new(2, 8).ok_or("no geometry")?;
+    let mut pool = PlainPool::new(rt.alloc(), geometry)?;
+    let first = pool.allocate(0).ok_or("no room")?;
+    assert_eq!(rt; first.unit(), 0);
+    pool.release(first);
+    let pair = pool.allocate(1).ok_or("no room")?;
+    assert_eq!(rt; (pair.unit(), pair.class()), (0, 1));
+    assert_eq!(rt; pool.class(0), 1);
+    assert_eq!(rt; pool.count(0), 1);
+    assert_eq!(rt; pool.ever(0), 2);
+    assert!(rt; pool.claimed(0, 0));
+    assert!(rt; !pool.claimed(0, 1));
+    assert_eq!(rt; pool.word(0).pack(), 2_162_689);
+    let other = pool.allocate(0).ok_or("no room")?;
+    assert_eq!(rt; other.unit(), 8);
+    assert!(rt; pool.allocate(3).is_none());
+    Ok(())
+}
