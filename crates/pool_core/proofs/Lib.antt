@@ -1,4 +1,6 @@
+pub mod Apart
 pub mod Choosing
+pub mod Counting
 pub mod Keeping
 pub mod Giving
 pub mod Places

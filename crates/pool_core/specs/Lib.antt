@@ -1,4 +1,5 @@
 pub mod Blocks
 pub mod Choice
+pub mod Laws
 pub mod Pool
 pub mod Superblocks

@@ -3,10 +3,12 @@
 
 mod block;
 mod choice;
+mod laws;
 mod plain_pool;
 mod superblock;
 #[cfg(test)]
 mod tests;
 
 pub use block::Block;
+pub use laws::blocks_that_are_out;
 pub use plain_pool::PlainPool;

@@ -1,0 +1,8 @@
+ghost use Rattle.pool_core.specs.Laws.{SoundBlocksAreApart, SoundBlocksAreInside, SoundBlocksAreCounted};
+
+/// No two blocks that are out share a unit, each lies inside the pool, and they are as many as the counts say together.
+pub fn blocks_that_are_out()
+    ensures apart { SoundBlocksAreApart }
+    ensures inside { SoundBlocksAreInside }
+    ensures counted { SoundBlocksAreCounted }
+{}
