@@ -59,6 +59,7 @@ impl ClaimBits {
         ensures lowest { IsLowestClear self.old.set result }
         ensures within { result < self.old.count }
         ensures after { self.new ≡ record self.old { set = slice_set self.old.set result true } }
+        ensures more { set_count self.new.set ≡ set_count self.old.set + 1 }
     {
         let bit = lowest_clear(&self.words);
         set_bit(&mut self.words, bit);
@@ -68,7 +69,8 @@ impl ClaimBits {
     /// Clears a bit. What is reserved stays so until it is settled.
     pub fn clear(&mut self, bit: u32)
         requires { IsSet self.old.set bit }
-        ensures { self.new ≡ record self.old { set = slice_set self.old.set bit false } }
+        ensures after { self.new ≡ record self.old { set = slice_set self.old.set bit false } }
+        ensures fewer { set_count self.new.set + 1 ≡ set_count self.old.set }
     {
         clear_bit(&mut self.words, bit);
     }
@@ -92,6 +94,7 @@ impl ClaimBits {
     /// How many are reserved: at least those that are set, and at most all.
     pub fn count(&self) -> u32
         ensures count { result ≡ self.now.count }
+        ensures few { result ≤ 512 }
         ensures most { self.now.count ≤ length self.now.set }
         ensures least { set_count self.now.set ≤ self.now.count }
     {

@@ -20,3 +20,8 @@ invariant_of-self c =
       least = rw (c.clear_bit.ensures c.self.inside.bits)
           (omega (arith, set_count_cleared (first_bits c.self.inside.bits c.self.inside.words) c.args.bit was, c.self.invariant.least));
     }
+
+pub returns-clause-fewer : goal.returns-clause-fewer
+returns-clause-fewer c =
+    let was : IsSet (first_bits c.self.inside.bits c.self.inside.words) c.args.bit = ap (λ (v : Claims). slice_get v.set c.args.bit) c.self.view_is ∙ c.requires in
+    rw (← c.self.view_is, c.clear_bit.ensures c.self.inside.bits) (set_count_cleared (first_bits c.self.inside.bits c.self.inside.words) c.args.bit was)
