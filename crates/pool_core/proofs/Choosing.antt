@@ -3,7 +3,7 @@ use Rattle.std.proofs.Common.{◌≡◌, ℕ, ◌+◌, ◌<◌, ◌≤◌, Bool,
 use Rattle.std.specs.Prelude.{MatchOption, IfSome}
 use Rattle.std.proofs.lemmas.Bool.{cases_eq, cases_lt, eqb-true, false≢true}
 use Rattle.std.proofs.lemmas.Option.{same_Some, slice_get_within}
-use Rattle.pool_core.specs.Choice.{Each, NoneBefore, IsFirst, Chooses, IsClosed}
+use Rattle.pool_core.specs.Choice.{Each, NoneBefore, IsFirst, Chooses, IsWithoutRoom}
 use Rattle.pool_core.specs.Superblocks.{SuperblockState, HasRoom, IsEmpty}
 
 -- the first empty one below a place, if there is one
@@ -30,28 +30,28 @@ FirstEmptyBelow_more superblocks n here None result there e found = by (eqb here
     by false test is = rw is (NoneBefore_more IsEmpty superblocks n here there (λ empty. absurd (false≢true (sym test ∙ eq-eqb here.count 0 empty))) found)
 
 -- a superblock that has no room and is not empty
-pub IsClosed_from : (class room : ℕ) (superblock : SuperblockState) → ¬ HasRoom class room superblock → ¬ IsEmpty superblock → IsClosed class room superblock
-IsClosed_from class room superblock full out =
+pub IsWithoutRoom_from : (class room : ℕ) (superblock : SuperblockState) → ¬ HasRoom class room superblock → ¬ IsEmpty superblock → IsWithoutRoom class room superblock
+IsWithoutRoom_from class room superblock full out =
     ⊎_elim
     (λ e. inl (e, ⊎_elim (λ lt. absurd (full (record { of_class = e; below = lt }))) (λ le. le) (cases_lt superblock.count room)))
     (λ ne. inr (ne, ⊎_elim (λ e. absurd (out e)) (λ other. omega arith) (cases_eq superblock.count 0)))
     (cases_eq superblock.class class)
 
-pub HasRoom-not_closed : (class room : ℕ) (superblock : SuperblockState) → HasRoom class room superblock → ¬ IsClosed class room superblock
-HasRoom-not_closed class room superblock has (inl (e, full)) = absurd (omega (arith, has.below, full))
-HasRoom-not_closed class room superblock has (inr (ne, some)) = ne has.of_class
+pub HasRoom_excludes : (class room : ℕ) (superblock : SuperblockState) → HasRoom class room superblock → ¬ IsWithoutRoom class room superblock
+HasRoom_excludes class room superblock has (inl (e, full)) = absurd (omega (arith, has.below, full))
+HasRoom_excludes class room superblock has (inr (ne, some)) = ne has.of_class
 
-pub IsEmpty-not_closed : (class room : ℕ) (superblock : SuperblockState) → 0 < room → IsEmpty superblock → ¬ IsClosed class room superblock
-IsEmpty-not_closed class room superblock some empty (inl (e, full)) = absurd (omega (arith, some, empty, full))
-IsEmpty-not_closed class room superblock some empty (inr (ne, out)) = absurd (omega (arith, empty, out))
+pub IsEmpty_excludes : (class room : ℕ) (superblock : SuperblockState) → 0 < room → IsEmpty superblock → ¬ IsWithoutRoom class room superblock
+IsEmpty_excludes class room superblock some empty (inl (e, full)) = absurd (omega (arith, some, empty, full))
+IsEmpty_excludes class room superblock some empty (inr (ne, out)) = absurd (omega (arith, empty, out))
 
 -- where one is chosen, not all are closed
-pub Chooses-not_closed : (class room : ℕ) (superblocks : List SuperblockState) (place : ℕ) → 0 < room
-    → Chooses class room superblocks place → ¬ Each (IsClosed class room) superblocks
-Chooses-not_closed class room superblocks place some (was, inl (there, has, before)) closed =
-    HasRoom-not_closed class room was has (closed place was there)
-Chooses-not_closed class room superblocks place some (was, inr (none, (there, empty, before))) closed =
-    IsEmpty-not_closed class room was some empty (closed place was there)
+pub Chooses_excludes : (class room : ℕ) (superblocks : List SuperblockState) (place : ℕ) → 0 < room
+    → Chooses class room superblocks place → ¬ Each (IsWithoutRoom class room) superblocks
+Chooses_excludes class room superblocks place some (was, inl (there, has, before)) closed =
+    HasRoom_excludes class room was has (closed place was there)
+Chooses_excludes class room superblocks place some (was, inr (none, (there, empty, before))) closed =
+    IsEmpty_excludes class room was some empty (closed place was there)
 
 -- all were looked at
 pub Each_from : (P : SuperblockState → Type 0) (superblocks : List SuperblockState) (n : ℕ) → length superblocks ≤ n
@@ -62,10 +62,10 @@ pub Chooses_last : (class room : ℕ) (superblocks : List SuperblockState) (n pl
     → NoneBefore (HasRoom class room) superblocks n → FirstEmptyBelow superblocks n (Some place) → Chooses class room superblocks place
 Chooses_last class room superblocks n place all none (was, first) = (was, inr (Each_from (HasRoom class room) superblocks n all none, first))
 
-pub Each-IsClosed : (class room : ℕ) (superblocks : List SuperblockState) (n : ℕ) → length superblocks ≤ n
-    → NoneBefore (HasRoom class room) superblocks n → FirstEmptyBelow superblocks n None → Each (IsClosed class room) superblocks
-Each-IsClosed class room superblocks n all none empty at superblock there =
-    IsClosed_from class room superblock
+pub Each-IsWithoutRoom : (class room : ℕ) (superblocks : List SuperblockState) (n : ℕ) → length superblocks ≤ n
+    → NoneBefore (HasRoom class room) superblocks n → FirstEmptyBelow superblocks n None → Each (IsWithoutRoom class room) superblocks
+Each-IsWithoutRoom class room superblocks n all none empty at superblock there =
+    IsWithoutRoom_from class room superblock
     (Each_from (HasRoom class room) superblocks n all none at superblock there)
     (Each_from IsEmpty superblocks n all empty at superblock there)
 
@@ -77,9 +77,9 @@ some_chosen class room superblocks n (Some place) all none empty = Chooses_last 
 
 pub none_chosen : (class room : ℕ) (superblocks : List SuperblockState) (n : ℕ) (empty : Option ℕ) → 0 < room → length superblocks ≤ n
     → NoneBefore (HasRoom class room) superblocks n → FirstEmptyBelow superblocks n empty
-    → IsNone empty ↔ Each (IsClosed class room) superblocks
-none_chosen class room superblocks n None some all none empty = (λ _. Each-IsClosed class room superblocks n all none empty, λ _. refl)
+    → IsNone empty ↔ Each (IsWithoutRoom class room) superblocks
+none_chosen class room superblocks n None some all none empty = (λ _. Each-IsWithoutRoom class room superblocks n all none empty, λ _. refl)
 none_chosen class room superblocks n (Some place) some all none empty = (
   λ no. absurd (false≢true (sym no)),
-  λ closed. absurd (Chooses-not_closed class room superblocks place some (Chooses_last class room superblocks n place all none empty) closed),
+  λ closed. absurd (Chooses_excludes class room superblocks place some (Chooses_last class room superblocks n place all none empty) closed),
 )

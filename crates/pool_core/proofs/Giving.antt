@@ -63,7 +63,7 @@ pub IsSound-given : (pool : PoolState) (class place bit : ℕ) (was : Superblock
     → IsLowestClear was.set bit → bit < capacity pool.units class → IsSound (with_superblock pool place (given was class bit))
 IsSound-given pool class place bit was sound fits ready lowest inside =
     IsSound-with pool place (given was class bit) sound (slice_get_within pool.superblocks place was ready.there)
-    (IsKept_given pool.units class bit was ready.kept fits ready.of_class (omega (arith, ready.below, ready.few)) lowest.clear inside)
+    (IsKept_given pool.units class bit was ready.kept fits ready.of_class ready.below ready.few lowest.clear inside)
 
 -- the same in the words of the call
 pub ready_from : (units room class place : ℕ) (looked items : List SuperblockState) (now : SuperblockState)

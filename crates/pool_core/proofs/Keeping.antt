@@ -26,15 +26,16 @@ IsSet_cleared bits bit other within is_set =
 
 -- all blocks that are out are of the class that is given, or none is out
 pub IsKept_given : (units class bit : ℕ) (was : SuperblockState) → IsKept units was → class ≤ 3
-    → (was.class ≡ class) ⊎ IsEmpty was → was.count < 512 → IsClear was.set bit → bit < capacity units class
+    → (was.class ≡ class) ⊎ IsEmpty was → was.count < capacity units class → capacity units class ≤ 512 → IsClear was.set bit → bit < capacity units class
     → IsKept units (given was class bit)
-IsKept_given units class bit was kept fits of_class few clear below = record {
+IsKept_given units class bit was kept fits of_class room few clear below = record {
   size = length-set was.set bit true ∙ kept.size;
   class_fits = fits;
   counted = omega (arith, kept.counted, set_count_claimed was.set bit clear);
   inside = inside;
+  within = omega (arith, room);
   ever_fits = omega (arith, kept.ever_fits);
-  ever_counts = omega (arith, kept.ever_counts, few);
+  ever_counts = omega (arith, kept.ever_counts, room, few);
 }
   where
     inside : (other : ℕ) → IsSet (set was.set bit true) other → other < capacity units class
@@ -51,6 +52,7 @@ IsKept_taken_back units bit was kept is_set = record {
   class_fits = kept.class_fits;
   counted = omega (arith, kept.counted, set_count_cleared was.set bit is_set);
   inside = λ other still. kept.inside other (IsSet_cleared was.set bit other (slice_get_within was.set bit true is_set) still).1;
+  within = omega (arith, kept.within);
   ever_fits = kept.ever_fits;
   ever_counts = omega (arith, kept.ever_counts);
 }

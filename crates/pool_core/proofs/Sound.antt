@@ -1,10 +1,10 @@
 -- What every pool keeps, and what follows from it.
-use Rattle.std.proofs.Common.{◌≡◌, ℕ, ◌<◌, ◌≤◌, zero, suc, true, false, lit<, replicate, List, Some, length, slice_get, set, sym, ◌∙◌, ap, subst, ⊎_elim, arith, length-set}
+use Rattle.std.proofs.Common.{◌≡◌, ℕ, ◌<◌, ◌≤◌, zero, suc, true, false, lit<, replicate, List, Some, length, slice_get, get_or, set, refl, sym, ◌∙◌, ap, subst, ⊎_elim, arith, length-set}
 use Rattle.std.proofs.lemmas.Bool.{cases_eq, false≢true}
 use Rattle.std.proofs.lemmas.List.{length-replicate}
 use Rattle.claim_core.proofs.Counted.{set_count-none}
 use Rattle.kt_words.specs.Ranges.{IsUnitCount}
-use Rattle.std.proofs.lemmas.Option.{none-some, same_Some}
+use Rattle.std.proofs.lemmas.Option.{none-some, same_Some, slice_get_read}
 use Rattle.pool_core.specs.Choice.{Each}
 use Rattle.pool_core.specs.Pool.{PoolState, IsSound, unused_pool, with_superblock}
 use Rattle.pool_core.specs.Superblocks.{SuperblockState, IsKept, unused}
@@ -38,6 +38,7 @@ IsKept_unused units = record {
   class_fits = omega arith;
   counted = sym (set_count-none units);
   inside = λ bit is_set. absurd (false≢true (same_in_replicate units false bit true is_set));
+  within = omega arith;
   ever_fits = lit< tt;
   ever_counts = omega arith;
 }
@@ -49,3 +50,8 @@ IsSound-unused superblocks units fits unit_count = record {
   unit_count = unit_count;
   kept = λ at other there. subst (IsKept units) (same_in_replicate superblocks (unused units) at other there) (IsKept_unused units);
 }
+
+-- what is read at a place is a superblock of the pool
+pub kept_read : (units : ℕ) (items : List SuperblockState) (at : ℕ) (now : SuperblockState)
+    → IsSound (record { units = units; superblocks = items }) → at < length items → now ≡ get_or items at now → IsKept units now
+kept_read units items at now sound within read = sound.kept at now (slice_get_read items (length items) at now refl within read)

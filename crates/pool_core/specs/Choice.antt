@@ -25,6 +25,6 @@ abbrev pub Chooses : ℕ → ℕ → List SuperblockState → ℕ → Type 0
 Chooses class room superblocks place = (superblock : SuperblockState) × IsChosen class room superblocks place superblock
 
 -- full in this class, or of another class with blocks that are out
-abbrev pub IsClosed : ℕ → ℕ → SuperblockState → Type 0
-IsClosed class room superblock =
+abbrev pub IsWithoutRoom : ℕ → ℕ → SuperblockState → Type 0
+IsWithoutRoom class room superblock =
     ((superblock.class ≡ class) × (room ≤ superblock.count)) ⊎ ((superblock.class ≢ class) × (0 < superblock.count))

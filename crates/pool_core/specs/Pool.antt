@@ -1,10 +1,10 @@
 -- What a pool is seen as, which blocks are out of it, and what a call does to it.
-use Rattle.std.specs.Prelude.{◌≡◌, ◌≢◌, ◌↔◌, ℕ, ◌*◌, ◌+◌, ◌≤◌, List, Some, Contains, length, slice_get, slice_set, replicate, sum_by}
+use Rattle.std.specs.Prelude.{◌≡◌, ◌≢◌, ◌↔◌, ℕ, ◌*◌, ◌/◌, ◌%◌, ◌+◌, ◌≤◌, List, Some, Contains, length, slice_get, slice_set, replicate, sum_by}
 use Rattle.claim_core.specs.Claims.{IsSet, IsLowestClear}
 use Rattle.kt_words.specs.Capacity.{block_units, capacity}
 use Rattle.kt_words.specs.Ranges.{IsUnitCount}
 use Rattle.pool_core.specs.Blocks.{BlockState, block_at, HasUnit}
-use Rattle.pool_core.specs.Choice.{Each, IsChosen, IsClosed}
+use Rattle.pool_core.specs.Choice.{Each, IsChosen, IsWithoutRoom}
 use Rattle.pool_core.specs.Superblocks.{SuperblockState, given, taken_back, unused, IsKept}
 
 -- how many units each superblock has, and the superblocks in their order
@@ -49,11 +49,13 @@ pub record TakesBack (old : PoolState) (block : BlockState) (new : PoolState) : 
   pub bit : ℕ
   pub was : SuperblockState
   pub out : IsOutAt old block place bit was
+  pub place_is : place ≡ block.unit / old.units
+  pub bit_is : bit ≡ block.unit % old.units / block_units block.class
   pub after : new ≡ with_superblock old place (taken_back was bit)
 
 -- no superblock has room for a block of the class
 abbrev pub HasNoRoom : PoolState → ℕ → Type 0
-HasNoRoom pool class = Each (IsClosed class (capacity pool.units class)) pool.superblocks
+HasNoRoom pool class = Each (IsWithoutRoom class (capacity pool.units class)) pool.superblocks
 
 -- what every pool keeps
 pub record IsSound (pool : PoolState) : Type 0 where

@@ -37,5 +37,6 @@ pub record IsKept (units : ℕ) (superblock : SuperblockState) : Type 0 where
   pub class_fits : superblock.class ≤ 3
   pub counted : superblock.count ≡ set_count superblock.set
   pub inside : (bit : ℕ) → IsSet superblock.set bit → bit < capacity units superblock.class
+  pub within : superblock.count ≤ capacity units superblock.class
   pub ever_fits : superblock.ever < 2 ^ 44
   pub ever_counts : superblock.count ≤ superblock.ever

@@ -1,5 +1,5 @@
 ghost use Rattle.std.specs.Prelude.{◌≡◌, ◌↔◌, ◌==◌, ◌<◌, is_some, IsNone, IfSome, Some, None, if◌then◌else◌};
-ghost use Rattle.pool_core.specs.Choice.{Each, Chooses, IsClosed};
+ghost use Rattle.pool_core.specs.Choice.{Each, Chooses, IsWithoutRoom};
 
 use crate::superblock::Superblock;
 
@@ -17,7 +17,7 @@ fn first_empty(seen: Option<usize>, superblock: &Superblock, place: usize) -> Op
 pub fn choose(superblocks: &[Superblock], class: u8, room: u32) -> Option<usize>
     requires { 0 < room }
     ensures chosen { IfSome result (λ place. Chooses class room superblocks.now place) }
-    ensures none { IsNone result ↔ Each (IsClosed class room) superblocks.now }
+    ensures none { IsNone result ↔ Each (IsWithoutRoom class room) superblocks.now }
 {
     let mut empty = None;
     for (place, superblock) in superblocks.iter().enumerate() {

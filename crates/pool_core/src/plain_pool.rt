@@ -1,4 +1,6 @@
-ghost use Rattle.std.specs.Prelude.{◌≡◌, ◌↔◌, ℕ, ◌<◌, ◌≤◌, IfOk, IsNone, IfNone, IfSome, Some, length, slice_get};
+ghost use Rattle.std.specs.Prelude.{◌≡◌, ◌↔◌, ℕ, ◌^◌, ◌<◌, ◌≤◌, IfOk, IsNone, IfNone, IfSome, Some, length, slice_get};
+ghost use Rattle.kt_words.specs.SuperWords.{FitsSuperWord};
+ghost use Rattle.pool_core.specs.Blocks.{BlockState};
 ghost use Rattle.pool_core.specs.Pool.{unused_pool, IsOut, Gives, Adds, TakesBack, Removes, HasNoRoom, IsSound};
 
 use crate::block::Block;
@@ -30,6 +32,7 @@ impl PlainPool {
     /// A pool from which no block was given yet.
     pub fn new(alloc: Global, geometry: Geometry) -> Result<PlainPool, AllocError>
         ensures unused { IfOk result (λ pool. pool ≡ unused_pool geometry.superblocks geometry.units) }
+        ensures none_out { IfOk result (λ pool. (block : BlockState) → ¬ IsOut pool block) }
         ensures sound { IfOk result (λ pool. IsSound pool) }
     {
         let mut superblocks = Vec::with_capacity(alloc, geometry.superblocks as usize)?;
@@ -49,6 +52,7 @@ impl PlainPool {
         ensures none { IsNone result ↔ HasNoRoom self.old class }
         ensures unchanged { IfNone result (self.new ≡ self.old) }
 
+        ensures class { IfSome result (λ block. block.class ≡ class) }
         ensures adds { IfSome result (λ block. Adds self.old block self.new) }
         ensures sound { IsSound self.new }
     {
@@ -74,10 +78,18 @@ impl PlainPool {
         superblock.take_back(bit);
     }
 
+    /// What every pool keeps: it is found here by a caller that was handed one.
+    pub fn keeps(&self)
+        ensures { IsSound self.now }
+    {
+        let _geometry = &self.geometry;
+    }
+
     /// The class of a superblock: that of its blocks that are out, or else of the last that was.
     pub fn class(&self, superblock: u32) -> u8
         requires { superblock < length self.now.superblocks }
-        ensures { IfSome (slice_get self.now.superblocks superblock) (λ state. result ≡ state.class) }
+        ensures class { IfSome (slice_get self.now.superblocks superblock) (λ state. result ≡ state.class) }
+        ensures fits { result ≤ 3 }
     {
         self.superblocks[superblock as usize].class()
     }
@@ -85,7 +97,8 @@ impl PlainPool {
     /// How many blocks of a superblock are out.
     pub fn count(&self, superblock: u32) -> u32
         requires { superblock < length self.now.superblocks }
-        ensures { IfSome (slice_get self.now.superblocks superblock) (λ state. result ≡ state.count) }
+        ensures count { IfSome (slice_get self.now.superblocks superblock) (λ state. result ≡ state.count) }
+        ensures few { result ≤ 512 }
     {
         self.superblocks[superblock as usize].count()
     }
@@ -93,7 +106,8 @@ impl PlainPool {
     /// How many blocks a superblock ever gave. It stays at its greatest value, 2^44 - 1.
     pub fn ever(&self, superblock: u32) -> u64
         requires { superblock < length self.now.superblocks }
-        ensures { IfSome (slice_get self.now.superblocks superblock) (λ state. result ≡ state.ever) }
+        ensures ever { IfSome (slice_get self.now.superblocks superblock) (λ state. result ≡ state.ever) }
+        ensures fits { result < 2 ^ 44 }
     {
         self.superblocks[superblock as usize].ever()
     }
@@ -110,7 +124,8 @@ impl PlainPool {
     /// Class, count and ever of a superblock in one.
     pub fn word(&self, superblock: u32) -> SuperWord
         requires { superblock < length self.now.superblocks }
-        ensures { IfSome (slice_get self.now.superblocks superblock) (λ state. result ≡ record { count = state.count; class = state.class; ever = state.ever }) }
+        ensures word { IfSome (slice_get self.now.superblocks superblock) (λ state. result ≡ record { count = state.count; class = state.class; ever = state.ever }) }
+        ensures fits { FitsSuperWord result }
     {
         self.superblocks[superblock as usize].word()
     }

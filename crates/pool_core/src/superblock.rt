@@ -47,7 +47,6 @@ impl Superblock {
         ensures count { result ≡ self.now.count }
         ensures few { self.now.count ≤ 512 }
     {
-        let _few = self.bits.bits();
         self.bits.count()
     }
 

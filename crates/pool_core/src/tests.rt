@@ -22,3 +22,13 @@ fn class_follows_the_last_block(rt: HostRuntime) -> Result<(), Fail> {
     assert!(rt; pool.allocate(3).is_none());
     Ok(())
 }
+
+#[test]
+fn full_in_its_class(rt: HostRuntime) -> Result<(), Fail> {
+    let geometry = Geometry::new(1, 8).ok_or("no geometry")?;
+    let mut pool = PlainPool::new(rt.alloc(), geometry)?;
+    let all = pool.allocate(3).ok_or("no room")?;
+    assert_eq!(rt; (all.unit(), all.class()), (0, 3));
+    assert!(rt; pool.allocate(3).is_none());
+    Ok(())
+}

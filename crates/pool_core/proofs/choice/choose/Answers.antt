@@ -2,7 +2,7 @@ use Rattle.std.proofs.Common.{arith, refl, sym, ◌∙◌, inl}
 use Rattle.std.proofs.lemmas.Bool.{true≢false}
 use Rattle.std.proofs.lemmas.Option.{slice_get_read}
 use Rattle.pool_core.specs.Superblocks.{HasRoom}
-use Rattle.pool_core.proofs.Choosing.{NoneBefore_more, FirstEmptyBelow_more, Chooses-not_closed, some_chosen, none_chosen}
+use Rattle.pool_core.proofs.Choosing.{NoneBefore_more, FirstEmptyBelow_more, Chooses_excludes, some_chosen, none_chosen}
 use Rattle.pool_core.proofs.choice.choose.Goals as goal
 
 pub loop-place-init : goal.loop-place-init
@@ -17,7 +17,7 @@ pub returns-then-has_room-clause-none : goal.returns-then-has_room-clause-none
 returns-then-has_room-clause-none c =
     let there = slice_get_read c.args.superblocks.now _ c.loop-place.place c.index-superblocks-place.result refl c.loop-place-test.true c.index-superblocks-place.is in (
       λ no. absurd (true≢false no),
-      λ closed. absurd (Chooses-not_closed c.args.class c.args.room c.args.superblocks.now c.loop-place.place c.requires
+      λ closed. absurd (Chooses_excludes c.args.class c.args.room c.args.superblocks.now c.loop-place.place c.requires
           (c.index-superblocks-place.result, inl (there, c.has_room.ensures.0 c.if-has_room.true, c.loop-place.invariant.0)) closed),
     )
 

@@ -2,7 +2,7 @@ use Rattle.std.proofs.Common.{◌≡◌, ◌+◌, ◌*◌, ◌<◌, sym, ◌∙�
 use Rattle.std.proofs.lemmas.Bool.{true≢false}
 use Rattle.kt_words.specs.Capacity.{block_units}
 use Rattle.pool_core.specs.Blocks.{BlockState, block_at}
-use Rattle.pool_core.specs.Choice.{Each, IsClosed}
+use Rattle.pool_core.specs.Choice.{Each, IsWithoutRoom}
 use Rattle.pool_core.specs.Pool.{PoolState, HasNoRoom, with_superblock}
 use Rattle.pool_core.proofs.Giving.{ready_from, IsSound-given}
 use Rattle.pool_core.proofs.Out.{Adds-given}
@@ -70,8 +70,8 @@ returns-clause-none c = (
   (λ closed.
       let here = subst (λ (p : PoolState). HasNoRoom p c.args.class) (sym c.self.view_is) closed in
       c.in_ok-place.ensures.none.1
-      (subst (λ looked. Each (IsClosed c.args.class c.cap-room.result) looked) (sym c.as_slice.ensures.value)
-      (subst (λ room. Each (IsClosed c.args.class room) c.self.inside.superblocks.items) (sym c.cap-room.ensures.quotient) here))),
+      (subst (λ looked. Each (IsWithoutRoom c.args.class c.cap-room.result) looked) (sym c.as_slice.ensures.value)
+      (subst (λ room. Each (IsWithoutRoom c.args.class room) c.self.inside.superblocks.items) (sym c.cap-room.ensures.quotient) here))),
 )
 
 pub returns-clause-adds : goal.returns-clause-adds
