@@ -21,7 +21,7 @@ pub record IsReady (pool : PoolState) (class place : ℕ) (superblock : Superblo
   pub few : capacity pool.units class ≤ 512
   pub chosen : IsChosen class (capacity pool.units class) pool.superblocks place superblock
 
-there_of : (class room place : ℕ) (superblocks : List SuperblockState) (was : SuperblockState)
+pub there_of : (class room place : ℕ) (superblocks : List SuperblockState) (was : SuperblockState)
     → IsChosen class room superblocks place was → slice_get superblocks place ≡ Some was
 there_of class room place superblocks was (inl first) = first.0
 there_of class room place superblocks was (inr (none, first)) = first.0

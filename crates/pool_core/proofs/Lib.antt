@@ -7,4 +7,5 @@ pub mod Places
 pub mod Sound
 pub mod Taking
 pub mod Units
+pub mod OneAnswer
 pub mod Out

@@ -10,5 +10,5 @@ mod superblock;
 mod tests;
 
 pub use block::Block;
-pub use laws::blocks_that_are_out;
+pub use laws::{blocks_that_are_out, one_is_given};
 pub use plain_pool::PlainPool;
