@@ -1,0 +1,187 @@
+-- The text of a well-formed program is canonical.
+use Rattle.std.proofs.Common.{◌≡◌, ◌≢◌, ℕ, true, false, List, [], ◌∷◌, ◌++◌, map, take, drop, refl, sym, ◌∙◌, ap, subst, arith, append_assoc, append-nil}
+use Rattle.std.specs.Prelude.{codes}
+use Rattle.std.specs.List.{flat_map, join_with_byte}
+use Rattle.std.proofs.lemmas.Fmt.{decimal_digit}
+use Rattle.task_syntax.specs.Form.{IsWellFormed}
+use Rattle.task_syntax.specs.declared.instr.MathOp.{MathOp}
+use Rattle.task_syntax.specs.declared.instr.MathOp.TheVariants as op
+use Rattle.task_syntax.specs.declared.instr.Line.{Line}
+use Rattle.task_syntax.specs.declared.program.Variable.{Variable}
+use Rattle.task_syntax.specs.declared.program.State.{State}
+use Rattle.task_syntax.specs.declared.program.Kind.{Kind}
+use Rattle.task_syntax.specs.declared.program.Root.{Root}
+use Rattle.task_syntax.specs.declared.program.Program.{Program}
+use Rattle.task_text.specs.Text.{Word}
+use Rattle.task_text.proofs.Answering.{same-bytes}
+use Rattle.task_syntax.specs.Names.{same_bytes}
+use Rattle.task_text.specs.Scan.{first_of}
+use Rattle.task_lines.specs.declared.step.Step.{Step}
+use Rattle.task_lines.specs.declared.step.Step.TheVariants.{Set, Math, If, Goto, Label, Cell, Rows, Spawn, All, Copy, Drop, Get, Again, Done}
+use Rattle.task_lines.specs.declared.item.What.{What}
+use Rattle.task_lines.specs.declared.item.What.TheVariants as what
+use Rattle.task_lines.specs.declared.scope.Scope.{Scope}
+use Rattle.task_lines.specs.Scope.{first_scope, after}
+use Rattle.task_lines.specs.Grammar.{operation_word}
+use Rattle.task_writer.specs.Words.{line_words}
+use Rattle.task_writer.specs.Lines.{Names, kind_names, root_names, names_in, step_of, code_lines, state_lines, var_lines, kind_lines, root_line, lines_of_program}
+use Rattle.task_writer.specs.Text.{spaced, parted, line_text, header_words, text_of_lines, text_of}
+use Rattle.task_writer.specs.Canonical.{IsTidy, AllTidy, EachTidy, Opens, EachNext, IsCanonical}
+use Rattle.task_writer.proofs.PlainLines.{fixed-tidy, line-tidy, line-begun}
+use Rattle.task_writer.proofs.StandingCode.{Stands}
+use Rattle.task_writer.proofs.StandingKinds.{lines-stand}
+
+-- ---- words parted by one space
+
+joined : (words : List Word) → parted words ≡ join_with_byte 32 words
+unfolding parted spaced
+joined [] = refl
+joined (word ∷ []) = append-nil word
+joined (word ∷ next ∷ words) = ap (λ z. word ++ 32 ∷ z) (joined (next ∷ words))
+
+line-parted : (words : List Word) → line_text words ≡ join_with_byte 32 words ++ 10 ∷ []
+unfolding line_text
+line-parted words = ap (λ z. z ++ 10 ∷ []) (joined words)
+
+abbrev written : List Word → List ℕ
+written words = join_with_byte 32 words ++ 10 ∷ []
+
+lines-parted : (ws : List What) → text_of_lines ws ≡ flat_map written (map line_words ws)
+unfolding text_of_lines
+lines-parted [] = refl
+lines-parted (w ∷ ws) =
+    ap (λ z. z ++ text_of_lines ws) (line-parted (line_words w)) ∙ ap (λ z. written (line_words w) ++ z) (lines-parted ws)
+
+text-parted : (p : Program) → text_of p ≡ flat_map written (header_words ∷ map line_words (lines_of_program p))
+unfolding text_of
+text-parted p =
+    ap (λ z. z ++ text_of_lines (lines_of_program p)) (line-parted header_words) ∙ ap (λ z. written header_words ++ z) (lines-parted (lines_of_program p))
+
+-- ---- tidy words
+
+each-tidy : (ws : List What) (s : Scope) → Stands s ws → EachTidy (map line_words ws)
+each-tidy [] s h = tt
+each-tidy (w ∷ ws) s h = (line-begun w h.0, line-tidy w h.0, each-tidy ws (after s w) h.2)
+
+one-tidy : IsTidy (codes "1")
+one-tidy = record {
+  begun = λ e. cc;
+  plain = refl;
+  needed = λ e. cc;
+  number = λ d. (1, omega arith, sym (decimal_digit 1 (omega arith)));
+}
+
+header-tidy : AllTidy header_words
+header-tidy = (fixed-tidy (codes "ktask") refl, (one-tidy, tt))
+
+-- ---- the first words of lines
+
+apart : (a b : Word) → same_bytes a b ≡ false → a ≢ b
+apart a b h e = let c : true ≡ false = sym (same-bytes a) ∙ (ap (same_bytes a) e ∙ h) in cc
+
+-- a word that is neither `var` nor `root`
+abbrev IsNeither : Word → Type 0
+IsNeither word = (word ≢ codes "var") × (word ≢ codes "root")
+
+neither : (word : Word) → same_bytes word (codes "var") ≡ false → same_bytes word (codes "root") ≡ false → IsNeither word
+neither word v r = (apart word (codes "var") v, apart word (codes "root") r)
+
+operation-open : (operation : MathOp) → IsNeither (operation_word operation)
+operation-open op.Add = neither (codes "add") refl refl
+operation-open op.Sub = neither (codes "sub") refl refl
+operation-open op.Mul = neither (codes "mul") refl refl
+operation-open op.Div = neither (codes "div") refl refl
+operation-open op.Rem = neither (codes "rem") refl refl
+
+abbrev IsInner : What → Type 0
+IsInner w = IsNeither (first_of (line_words w))
+
+step-inner : (s : Step) → IsInner (what.Step s)
+step-inner (Math operation to left right) = operation-open operation
+step-inner (Set to value) = neither (codes "set") refl refl
+step-inner (If relation left right target) = neither (codes "if") refl refl
+step-inner (Goto target) = neither (codes "goto") refl refl
+step-inner (Label name) = neither (codes "label") refl refl
+step-inner (Cell to column row) = neither (codes "cell") refl refl
+step-inner (Rows to column) = neither (codes "rows") refl refl
+step-inner (Spawn to kind arguments behind priority retry) = neither (codes "spawn") refl refl
+step-inner (All to members priority retry) = neither (codes "all") refl refl
+step-inner (Copy to source) = neither (codes "copy") refl refl
+step-inner (Drop future) = neither (codes "drop") refl refl
+step-inner (Get to future) = neither (codes "get") refl refl
+step-inner (Again target behind priority) = neither (codes "again") refl refl
+step-inner (Done value) = neither (codes "done") refl refl
+
+abbrev VarBehindKind : List Word → List Word → Type 0
+VarBehindKind line next = Opens (codes "var") next → Opens (codes "kind") line
+
+abbrev RootBehindRoot : List Word → List Word → Type 0
+RootBehindRoot line next = Opens (codes "root") line → Opens (codes "root") next
+
+-- the lines are in order behind a line that opens no root
+record AreOrdered (ws : List What) : Type 0 where
+  one_var : (line : List Word) → EachNext VarBehindKind (line ∷ map line_words ws)
+  roots_last : (line : List Word) → (Opens (codes "root") line → ⊥) → EachNext RootBehindRoot (line ∷ map line_words ws)
+
+inner-first : (w : What) (ws : List What) → IsInner w → AreOrdered ws → AreOrdered (w ∷ ws)
+inner-first w ws i o = record {
+  one_var = λ line. ((λ opens. absurd (i.0 opens)), o.one_var (line_words w));
+  roots_last = λ line n. ((λ opens. absurd (n opens)), o.roots_last (line_words w) i.1);
+}
+
+code-ordered : (n : Names) (code : List Line) (tail : List What) → AreOrdered tail → AreOrdered (code_lines n code ++ tail)
+code-ordered n [] tail o = o
+code-ordered n (l ∷ code) tail o = inner-first (what.Step (step_of n l.instr)) (code_lines n code ++ tail) (step-inner (step_of n l.instr)) (code-ordered n code tail o)
+
+states-ordered : (kinds : List (List ℕ)) (kind : Kind) (states : List State) (tail : List What) → AreOrdered tail → AreOrdered (flat_map (state_lines kinds kind) states ++ tail)
+unfolding state_lines
+states-ordered kinds kind [] tail o = o
+states-ordered kinds kind (state ∷ states) tail o =
+    let lines = code_lines (names_in kinds kind state) state.code in
+    let more = flat_map (state_lines kinds kind) states in
+    subst AreOrdered (sym (append_assoc (state_lines kinds kind state) more tail))
+    (inner-first _ (lines ++ (more ++ tail)) (neither (codes "state") refl refl) (code-ordered (names_in kinds kind state) state.code (more ++ tail) (states-ordered kinds kind states tail o)))
+
+var-ordered : (name : List ℕ) (arguments locals : List Variable) (tail : List What) → AreOrdered tail → AreOrdered (what.Kind name arguments ∷ (var_lines locals ++ tail))
+var-ordered name arguments [] tail o = inner-first (what.Kind name arguments) tail (neither (codes "kind") refl refl) o
+var-ordered name arguments (v ∷ vs) tail o = record {
+  one_var = λ line. ((λ opens. absurd (apart (codes "kind") (codes "var") refl opens)), ((λ opens. refl), o.one_var (line_words (what.Var (v ∷ vs)))));
+  roots_last = λ line n. ((λ opens. absurd (n opens)), ((λ opens. absurd (apart (codes "kind") (codes "root") refl opens)), o.roots_last (line_words (what.Var (v ∷ vs))) (apart (codes "var") (codes "root") refl)));
+}
+
+kinds-ordered : (names : List (List ℕ)) (kinds : List Kind) (tail : List What) → AreOrdered tail → AreOrdered (flat_map (kind_lines names) kinds ++ tail)
+unfolding kind_lines
+kinds-ordered names [] tail o = o
+kinds-ordered names (kind ∷ kinds) tail o =
+    let more = flat_map (kind_lines names) kinds ++ tail in
+    let states = flat_map (state_lines names kind) kind.states in
+    let locals = var_lines (drop kind.arguments kind.variables) in
+    let head = what.Kind kind.name (take kind.arguments kind.variables) in
+    subst AreOrdered
+    (sym (append_assoc (kind_lines names kind) (flat_map (kind_lines names) kinds) tail ∙ ap (λ ws. head ∷ ws) (append_assoc locals (states ++ what.End ∷ []) more ∙ ap (λ ws. locals ++ ws) (append_assoc states (what.End ∷ []) more))))
+    (var-ordered kind.name (take kind.arguments kind.variables) (drop kind.arguments kind.variables) (states ++ (what.End ∷ more))
+    (states-ordered names kind kind.states (what.End ∷ more) (inner-first what.End more (neither (codes "end") refl refl) (kinds-ordered names kinds tail o))))
+
+roots-ordered : (names roots : List (List ℕ)) (rs : List Root) → AreOrdered (map (root_line names roots) rs)
+unfolding root_line
+roots-ordered names roots rs = record { one_var = vars rs; roots_last = λ line n. last rs line } where
+  vars : (rs : List Root) (line : List Word) → EachNext VarBehindKind (line ∷ map line_words (map (root_line names roots) rs))
+  vars [] line = tt
+  vars (r ∷ rs) line = ((λ opens. absurd (apart (codes "root") (codes "var") refl opens)), vars rs (line_words (root_line names roots r)))
+
+  last : (rs : List Root) (line : List Word) → EachNext RootBehindRoot (line ∷ map line_words (map (root_line names roots) rs))
+  last [] line = tt
+  last (r ∷ rs) line = ((λ opens. refl), last rs (line_words (root_line names roots r)))
+
+program-ordered : (p : Program) → AreOrdered (lines_of_program p)
+unfolding lines_of_program
+program-ordered p = kinds-ordered (kind_names p.kinds) p.kinds _ (roots-ordered (kind_names p.kinds) (root_names p.roots) p.roots)
+
+pub is_canonical : (p : Program) → IsWellFormed p → IsCanonical (text_of p)
+is_canonical p formed = record {
+  lines = header_words ∷ map line_words (lines_of_program p);
+  parted = text-parted p;
+  tidy = ((λ e. cc), header-tidy, each-tidy (lines_of_program p) first_scope (lines-stand p formed));
+  one_var = (program-ordered p).one_var header_words;
+  roots_last = (program-ordered p).roots_last header_words (apart (codes "ktask") (codes "root") refl);
+}

@@ -1,0 +1,13 @@
+-- The name at a position is that of what stands there.
+use Rattle.std.proofs.Common.{◌≡◌, ℕ, List, [], map, slice_get, Some, None, unwrap_or, ◌∙◌, ap}
+use Rattle.std.specs.Option.{option_map}
+use Rattle.std.proofs.lemmas.Option.{slice_get-map}
+use Rattle.task_writer.specs.Lines.{name_at}
+
+pub name-found : {X : Type 0} (name : X → List ℕ) (xs : List X) (at : ℕ) (x : X) → slice_get xs at ≡ Some x → name_at (map name xs) at ≡ name x
+name-found name xs at x e = ap (λ o. unwrap_or o []) (slice_get-map name xs at ∙ ap (option_map name) e)
+
+pub name-missing : {X : Type 0} (name : X → List ℕ) (xs : List X) (at : ℕ) → slice_get xs at ≡ None → name_at (map name xs) at ≡ []
+name-missing name xs at e = ap (λ o. unwrap_or o []) (slice_get-map name xs at ∙ ap (option_map name) e)
+
+pub ruleset named = (name-found, name-missing)

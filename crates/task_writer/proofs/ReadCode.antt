@@ -1,0 +1,259 @@
+-- The instructions of a state are read back.
+use Rattle.std.proofs.Common.{◌≡◌, ℕ, zero, suc, ◌+◌, ◌-◌, ◌<◌, add-one, Bool, true, false, Option, Some, None, option_map, List, [], ◌∷◌, ◌++◌, map, length, slice_get, refl, sym, ◌∙◌, ap, subst, arith}
+use Rattle.std.proofs.lemmas.List.{length-map}
+use Rattle.std.specs.Prelude.{IfSome}
+use Rattle.task_syntax.specs.Names.{same_bytes}
+use Rattle.task_syntax.specs.Places.{EachAt, Each, AllDiffer, IsNumberAt, IsFutureAt}
+use Rattle.task_syntax.specs.Form.{IsFormedOperand, IsFormedArgument, IsFormedInstr, IsLabel, IsLabelAhead, labels_of}
+use Rattle.task_syntax.specs.declared.program.Sort.TheVariants as sort
+use Rattle.task_syntax.specs.declared.program.State.{State}
+use Rattle.task_syntax.specs.declared.program.Kind.{Kind}
+use Rattle.task_syntax.specs.declared.program.Program.{Program}
+use Rattle.task_syntax.specs.declared.instr.Operand.{Operand}
+use Rattle.task_syntax.specs.declared.instr.Operand.TheVariants as operand
+use Rattle.task_syntax.specs.declared.instr.Argument.{Argument}
+use Rattle.task_syntax.specs.declared.instr.Argument.TheVariants as argument
+use Rattle.task_syntax.specs.declared.instr.Instr.{Instr}
+use Rattle.task_syntax.specs.declared.instr.Instr.TheVariants.{Set, Math, If, Goto, Label, Cell, Rows, Spawn, All, Copy, Drop, Get, Again, Done}
+use Rattle.task_syntax.specs.declared.instr.Line.{Line}
+use Rattle.task_syntax.proofs.Differ.{differ-tail, differ-head}
+use Rattle.task_lines.specs.declared.item.What.{What}
+use Rattle.task_lines.specs.declared.item.What.TheVariants as what
+use Rattle.task_reader.specs.declared.positions.Positions.{Positions}
+use Rattle.task_reader.specs.Program.{place_of, number_place, future_place, operand_of, argument_of, instr_of, is_label, steps_to, code_from}
+use Rattle.task_reader.proofs.FormedCode.{line-at}
+use Rattle.task_reader.proofs.Places.{same-name}
+use Rattle.task_lines.proofs.SpelledParts.{same-bytes}
+use Rattle.task_writer.specs.Lines.{Names, name_at, kind_names, variable_names, state_names, label_names, label_of, names_in, term_of, passed_of, step_of, code_lines}
+use Rattle.task_writer.specs.Numbering.{numbered_code}
+use Rattle.task_writer.proofs.Itemized.{items_at}
+use Rattle.task_writer.proofs.Named.{name-found}
+use Rattle.task_writer.proofs.ReadPlaces.{position-place, variable-place, stands-at}
+
+-- ---- the parts of an instruction
+
+-- the positions are those of the names in a state of a kind
+pub record AreOf (positions : Positions) (p : Program) (kind : Kind) : Type 0 where
+  pub kinds : positions.kinds ≡ kind_names p.kinds
+  pub variables : positions.variables ≡ kind.variables
+  pub states : positions.states ≡ state_names kind.states
+  pub kinds_differ : AllDiffer (kind_names p.kinds)
+  pub variables_differ : AllDiffer kind.variables
+  pub states_differ : AllDiffer (state_names kind.states)
+
+abbrev pub at_variable : Kind → ℕ → List ℕ
+at_variable kind at = name_at (variable_names kind.variables) at
+
+pub number-back : (positions : Positions) (p : Program) (kind : Kind) → AreOf positions p kind → (at : ℕ) → IsNumberAt kind at
+    → number_place positions.variables (at_variable kind at) ≡ at
+number-back positions p kind are at n = rw are.variables (variable-place kind.variables are.variables_differ sort.Number at (stands-at kind.variables sort.Number at n))
+
+pub future-back : (positions : Positions) (p : Program) (kind : Kind) → AreOf positions p kind → (at : ℕ) → IsFutureAt kind at
+    → future_place positions.variables (at_variable kind at) ≡ at
+future-back positions p kind are at n = rw are.variables (variable-place kind.variables are.variables_differ sort.Future at (stands-at kind.variables sort.Future at n))
+
+kind-back : (positions : Positions) (p : Program) (kind : Kind) → AreOf positions p kind → (at : ℕ) → at < length p.kinds
+    → place_of positions.kinds (name_at (kind_names p.kinds) at) ≡ at
+kind-back positions p kind are at l = rw are.kinds (position-place (kind_names p.kinds) are.kinds_differ at (rw length-map l))
+
+state-back : (positions : Positions) (p : Program) (kind : Kind) → AreOf positions p kind → (at : ℕ) → at < length kind.states
+    → place_of positions.states (name_at (state_names kind.states) at) ≡ at
+state-back positions p kind are at l = rw are.states (position-place (state_names kind.states) are.states_differ at (rw length-map l))
+
+operand-back : (positions : Positions) (p : Program) (kind : Kind) → AreOf positions p kind → (a : Operand) → IsFormedOperand kind a
+    → operand_of positions (term_of (variable_names kind.variables) a) ≡ a
+operand-back positions p kind are (operand.Literal n) formed = refl
+operand-back positions p kind are (operand.Variable at) formed = ap operand.Variable (number-back positions p kind are at formed)
+
+argument-back : (positions : Positions) (p : Program) (kind : Kind) → AreOf positions p kind → (a : Argument) → IsFormedArgument kind a
+    → argument_of positions (passed_of (variable_names kind.variables) a) ≡ a
+argument-back positions p kind are (argument.Number a) formed = ap argument.Number (operand-back positions p kind are a formed)
+argument-back positions p kind are (argument.Future at) formed = ap argument.Future (future-back positions p kind are at formed)
+
+pub map-back : {A B : Type 0} (read : B → A) (write : A → B) (P : A → Type 0) → ((a : A) → P a → read (write a) ≡ a)
+    → (more : List A) → Each more P → map read (map write more) ≡ more
+map-back read write P back [] each = refl
+map-back read write P back (a ∷ more) each = rw (back a (each zero a refl), map-back read write P back more (λ i. each (suc i))) refl
+
+pub option-back : {A B : Type 0} (read : B → A) (write : A → B) (P : A → Type 0) → ((a : A) → P a → read (write a) ≡ a)
+    → (o : Option A) → IfSome o P → option_map read (option_map write o) ≡ o
+option-back read write P back None some = refl
+option-back read write P back (Some a) some = ap Some (back a some)
+
+pub futures-back : (positions : Positions) (p : Program) (kind : Kind) → AreOf positions p kind → (more : List ℕ) → Each more (IsFutureAt kind)
+    → map (future_place positions.variables) (map (at_variable kind) more) ≡ more
+futures-back positions p kind are = map-back (future_place positions.variables) (at_variable kind) (IsFutureAt kind) (future-back positions p kind are)
+
+behind-back : (positions : Positions) (p : Program) (kind : Kind) → AreOf positions p kind → (behind : Option ℕ) → IfSome behind (IsFutureAt kind)
+    → option_map (future_place positions.variables) (option_map (at_variable kind) behind) ≡ behind
+behind-back positions p kind are = option-back (future_place positions.variables) (at_variable kind) (IsFutureAt kind) (future-back positions p kind are)
+
+-- ---- the instruction
+
+instr-back : (positions : Positions) (p : Program) (kind : Kind) → AreOf positions p kind → (state : State) (at : ℕ) (label_place : List ℕ → ℕ)
+    → ((target : ℕ) → IsLabelAhead state at target → label_place (name_at (label_names state.code) target) ≡ target)
+    → (instr : Instr) → IsFormedInstr p kind state at instr → instr_of positions label_place (step_of (names_in (kind_names p.kinds) kind state) instr) ≡ instr
+unfolding instr_of step_of
+instr-back positions p kind are state at label_place labels (Set to value) formed =
+    rw (number-back positions p kind are to formed.0, operand-back positions p kind are value formed.1) refl
+instr-back positions p kind are state at label_place labels (Math op to left right) formed =
+    rw (number-back positions p kind are to formed.0, operand-back positions p kind are left formed.1, operand-back positions p kind are right formed.2) refl
+instr-back positions p kind are state at label_place labels (If relation left right target) formed =
+    rw (operand-back positions p kind are left formed.0, operand-back positions p kind are right formed.1, labels target formed.2) refl
+instr-back positions p kind are state at label_place labels (Goto target) formed = ap Goto (labels target formed)
+instr-back positions p kind are state at label_place labels (Label name) formed = refl
+instr-back positions p kind are state at label_place labels (Cell to column row) formed =
+    rw (number-back positions p kind are to formed.0, operand-back positions p kind are row formed.2) refl
+instr-back positions p kind are state at label_place labels (Rows to column) formed = rw (number-back positions p kind are to formed.0) refl
+instr-back positions p kind are state at label_place labels (Spawn to callee arguments behind priority retry) formed =
+    rw (
+      future-back positions p kind are to formed.0,
+      kind-back positions p kind are callee formed.1,
+      map-back (argument_of positions) (passed_of (variable_names kind.variables)) (IsFormedArgument kind) (argument-back positions p kind are) arguments formed.3,
+      behind-back positions p kind are behind formed.4,
+    ) refl
+instr-back positions p kind are state at label_place labels (All to members priority retry) formed =
+    rw (future-back positions p kind are to formed.0, futures-back positions p kind are members formed.3) refl
+instr-back positions p kind are state at label_place labels (Copy to source) formed =
+    rw (future-back positions p kind are to formed.0, future-back positions p kind are source formed.1) refl
+instr-back positions p kind are state at label_place labels (Drop future) formed = ap Drop (future-back positions p kind are future formed)
+instr-back positions p kind are state at label_place labels (Get to future) formed =
+    rw (number-back positions p kind are to formed.0, future-back positions p kind are future formed.1) refl
+instr-back positions p kind are state at label_place labels (Again target behind priority) formed =
+    rw (state-back positions p kind are target formed.0, behind-back positions p kind are behind formed.1) refl
+instr-back positions p kind are state at label_place labels (Done value) formed = ap Done (operand-back positions p kind are value formed)
+
+-- ---- labels
+
+-- a label among instructions is among the names of their labels
+pub label-listed : (code : List Line) (j : ℕ) (line : Line) (name : List ℕ) → slice_get code j ≡ Some line → line.instr ≡ Label name
+    → (i : ℕ) × (slice_get (labels_of code) i ≡ Some name)
+label-listed [] j line name e is = cc
+label-listed (l ∷ code) zero line name e is = let s : l.instr ≡ Label name = ap (λ (x : Line). x.instr) (some-same l line e) ∙ is in rw s (0, refl) where
+  some-same : (a b : Line) → Some a ≡ Some b → a ≡ b
+  some-same a b e = cc
+label-listed (l ∷ code) (suc j) line name e is = let r = label-listed code j line name e is in by l.instr refl r.0 r.1 where
+  by : (instr : Instr) → l.instr ≡ instr → (i : ℕ) → slice_get (labels_of code) i ≡ Some name → (i : ℕ) × (slice_get (labels_of (l ∷ code)) i ≡ Some name)
+  by (Label other) f i g = rw f (suc i, g)
+  by _ f i g = rw f (i, g)
+
+-- a label stands as many steps ahead as its place says
+abbrev LabelFound : List (List ℕ) → Kind → State → List Line → Type 0
+LabelFound kinds kind state code = AllDiffer (labels_of code) → (n : ℕ) (rest : List What) (j : ℕ) (line : Line) (name : List ℕ)
+    → slice_get code j ≡ Some line → line.instr ≡ Label name → steps_to name (items_at n (code_lines (names_in kinds kind state) code ++ rest)) ≡ j
+
+-- the instruction before the label is another
+passes-on : (names : Names) (l : Line) (code : List Line) → AllDiffer (labels_of (l ∷ code)) → (i : ℕ) (name : List ℕ)
+    → slice_get (labels_of code) i ≡ Some name → is_label name (step_of names l.instr) ≡ false
+unfolding step_of
+passes-on names l code differ i name listed = by l.instr refl where
+  other-label : (other : List ℕ) → l.instr ≡ Label other → (b : Bool) → same_bytes name other ≡ b → b ≡ false
+  other-label other f true s = absurd (differ-head other (labels_of code) (subst (λ names. AllDiffer names) (by_label other f) differ) i (listed ∙ ap Some (same-name name other s))) where
+    by_label : (other : List ℕ) → l.instr ≡ Label other → labels_of (l ∷ code) ≡ other ∷ labels_of code
+    by_label other f = rw f refl
+  other-label other f false s = refl
+
+  by : (instr : Instr) → l.instr ≡ instr → is_label name (step_of names instr) ≡ false
+  by (Label other) f = other-label other f (same_bytes name other) refl
+  by _ f = refl
+
+labels-further : (l : Line) (code : List Line) → AllDiffer (labels_of (l ∷ code)) → AllDiffer (labels_of code)
+labels-further l code differ = by l.instr refl where
+  by : (instr : Instr) → l.instr ≡ instr → AllDiffer (labels_of code)
+  by (Label other) f = differ-tail other (labels_of code) (subst (λ names. AllDiffer names) (by_label other f) differ) where
+    by_label : (other : List ℕ) → l.instr ≡ Label other → labels_of (l ∷ code) ≡ other ∷ labels_of code
+    by_label other f = rw f refl
+  by _ f = subst (λ names. AllDiffer names) (rw f refl) differ
+
+pub label-found : (kinds : List (List ℕ)) (kind : Kind) (state : State) (code : List Line) → LabelFound kinds kind state code
+unfolding step_of
+label-found kinds kind state [] differ n rest j line name e is = cc
+label-found kinds kind state (l ∷ code) differ n rest zero line name e is =
+    let s : l.instr ≡ Label name = ap (λ (x : Line). x.instr) (some-same l line e) ∙ is in rw (s, same-bytes name) refl where
+      some-same : (a b : Line) → Some a ≡ Some b → a ≡ b
+      some-same a b e = cc
+label-found kinds kind state (l ∷ code) differ n rest (suc j) line name e is =
+    let r = label-listed code j line name e is in
+    let before = passes-on (names_in kinds kind state) l code differ r.0 name r.1 in
+    let further = label-found kinds kind state code (labels-further l code differ) (n + 1) rest j line name e is in
+    rw (before, further) (add-one j)
+
+-- ---- the code
+
+-- what stands behind the code is no instruction
+abbrev pub EndsCode : List What → Type 0
+EndsCode (what.State name holds settled ∷ rest) = Unit {0}
+EndsCode (what.End ∷ rest) = Unit {0}
+EndsCode _ = ⊥
+
+-- these are the lines of the code from a place on
+abbrev pub IsFrom : {X : Type 0} → List X → ℕ → List X → Type 0
+IsFrom all at rest = (j : ℕ) → slice_get all (at + j) ≡ slice_get rest j
+
+pub from-start : {X : Type 0} (all : List X) → IsFrom all 0 all
+from-start all j = let e : 0 + j ≡ j = omega arith in ap (slice_get all) e
+
+pub from-next : {X : Type 0} (all : List X) (at : ℕ) (x : X) (rest : List X) → IsFrom all at (x ∷ rest) → IsFrom all (at + 1) rest
+from-next all at x rest from j = let e : at + 1 + j ≡ at + suc j = omega arith in ap (slice_get all) e ∙ from (suc j)
+
+pub from-here : {X : Type 0} (all : List X) (at : ℕ) (x : X) (rest : List X) → IsFrom all at (x ∷ rest) → slice_get all at ≡ Some x
+from-here all at x rest from = let e : at ≡ at + 0 = omega arith in ap (slice_get all) e ∙ from zero
+
+is-label : (instr : Instr) → IsLabel instr → (name : List ℕ) × (instr ≡ Label name)
+is-label (Label name) label = (name, refl)
+is-label _ label = absurd label
+
+-- the label at a target, as it stands in the code behind a place
+pub record LabelAt (state : State) (at : ℕ) (code : List Line) (target : ℕ) : Type 0 where
+  pub place : ℕ
+  pub line : Line
+  pub name : List ℕ
+  pub sum : at + 1 + place ≡ target
+  pub stands : slice_get code place ≡ Some line
+  pub is : line.instr ≡ Label name
+  pub called : name_at (label_names state.code) target ≡ name
+
+pub label-at : (state : State) (at : ℕ) (code : List Line) → IsFrom state.code (at + 1) code → (target : ℕ) → IsLabelAhead state at target → LabelAt state at code target
+label-at state at code from target ahead =
+    let l = line-at state.code target ahead.1.0 ahead.1.1 in
+    let named = is-label ahead.1.0 ahead.1.2 in
+    let is : l.0.instr ≡ Label named.0 = l.2 ∙ named.1 in
+    let place = target - (at + 1) in
+    let sum : at + 1 + place ≡ target = omega (arith, ahead.0) in
+    record {
+      place = place;
+      line = l.0;
+      name = named.0;
+      sum = sum;
+      stands = sym (from place) ∙ (ap (slice_get state.code) sum ∙ l.1);
+      is = is;
+      called = name-found (λ (l : Line). label_of l.instr) state.code target l.0 l.1 ∙ ap label_of is;
+    }
+
+-- where a label ahead is
+label-ahead : (p : Program) (kind : Kind) (state : State) (at : ℕ) (code : List Line) → AllDiffer (labels_of code) → IsFrom state.code (at + 1) code
+    → (n : ℕ) (rest : List What) (target : ℕ) → IsLabelAhead state at target
+    → at + 1 + steps_to (name_at (label_names state.code) target) (items_at n (code_lines (names_in (kind_names p.kinds) kind state) code ++ rest)) ≡ target
+label-ahead p kind state at code differ from n rest target ahead =
+    let label = label-at state at code from target ahead in
+    rw (label.called, label-found (kind_names p.kinds) kind state code differ n rest label.place label.line label.name label.stands label.is) label.sum
+
+code-ends : (positions : Positions) (at n : ℕ) (rest : List What) → EndsCode rest → code_from positions at (items_at n rest) ≡ []
+unfolding code_from
+code-ends positions at n (what.State name holds settled ∷ rest) ends = refl
+code-ends positions at n (what.End ∷ rest) ends = refl
+code-ends positions at n _ ends = absurd ends
+
+pub code-back : (positions : Positions) (p : Program) (kind : Kind) → AreOf positions p kind → (state : State)
+    → EachAt state.code (λ at line. IsFormedInstr p kind state at line.instr)
+    → (code : List Line) (at n : ℕ) (rest : List What) → EndsCode rest → AllDiffer (labels_of code) → IsFrom state.code at code
+    → code_from positions at (items_at n (code_lines (names_in (kind_names p.kinds) kind state) code ++ rest)) ≡ numbered_code n code
+unfolding code_from numbered_code
+code-back positions p kind are state formed [] at n rest ends differ from = code-ends positions at n rest ends
+code-back positions p kind are state formed (l ∷ code) at n rest ends differ from =
+    let later = from-next state.code at l code from in
+    let apart = labels-further l code differ in
+    rw (
+      instr-back positions p kind are state at _ (label-ahead p kind state at code apart later (n + 1) rest) l.instr (formed at l (from-here state.code at l code from)),
+      code-back positions p kind are state formed code (at + 1) (n + 1) rest ends apart later,
+    ) refl

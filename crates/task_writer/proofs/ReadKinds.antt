@@ -1,0 +1,111 @@
+-- The kinds of a program are read back.
+use Rattle.std.proofs.Common.{◌≡◌, ℕ, zero, suc, ◌+◌, List, [], ◌∷◌, ◌++◌, take, drop, length, refl, ◌∙◌, ap, append_assoc, arith}
+use Rattle.std.proofs.lemmas.List.{take-append-drop, length-take-le}
+use Rattle.std.specs.List.{flat_map}
+use Rattle.task_syntax.specs.Places.{Each, AllDiffer}
+use Rattle.task_syntax.specs.Form.{IsFormedKind}
+use Rattle.task_syntax.specs.declared.program.Kind.{Kind}
+use Rattle.task_syntax.specs.declared.program.Program.{Program}
+use Rattle.task_lines.specs.declared.item.What.{What}
+use Rattle.task_lines.specs.declared.item.What.TheVariants as what
+use Rattle.task_reader.specs.declared.positions.Positions.{Positions}
+use Rattle.task_reader.specs.Names.{kind_names as names_of_kinds, state_names as names_of_states}
+use Rattle.task_reader.specs.Program.{states_from, kind_of, kinds_from}
+use Rattle.task_writer.specs.Lines.{kind_names, state_names, state_lines, var_lines, kind_lines}
+use Rattle.task_writer.specs.Numbering.{numbered_kind, numbered_kinds}
+use Rattle.task_writer.proofs.Itemized.{items_at}
+use Rattle.task_writer.proofs.Skipped.{SkipsInside, inner_lines, skipped, skips-var, skips-inner}
+use Rattle.task_writer.proofs.ReadCode.{AreOf}
+use Rattle.task_writer.proofs.ReadStates.{states_lines, states-end-code, states-back, states-named, variables-back}
+
+-- the lines of a kind behind its first, and the rest
+pub inner-behind : (kinds : List (List ℕ)) (kind : Kind) (rest : List What)
+    → inner_lines kinds kind ++ rest ≡ var_lines (drop kind.arguments kind.variables) ++ states_lines kinds kind kind.states rest
+inner-behind kinds kind rest =
+    let var = var_lines (drop kind.arguments kind.variables) in
+    let states = flat_map (state_lines kinds kind) kind.states in
+    append_assoc var (states ++ what.End ∷ []) rest ∙ ap (λ ws. var ++ ws) (append_assoc states (what.End ∷ []) rest)
+
+pub are-positions : (p : Program) (kind : Kind) → AllDiffer (kind_names p.kinds) → IsFormedKind p kind → (positions : Positions)
+    → positions.kinds ≡ kind_names p.kinds → positions.variables ≡ kind.variables → positions.states ≡ state_names kind.states → AreOf positions p kind
+are-positions p kind differ formed positions k v s = record {
+  kinds = k;
+  variables = v;
+  states = s;
+  kinds_differ = differ;
+  variables_differ = formed.variables_differ;
+  states_differ = formed.state_names_differ;
+}
+
+pub kind-back : (p : Program) (kind : Kind) → AllDiffer (kind_names p.kinds) → IsFormedKind p kind → (n : ℕ) (rest : List What)
+    → kind_of (kind_names p.kinds) n kind.name (take kind.arguments kind.variables) (items_at (n + 1) (inner_lines (kind_names p.kinds) kind ++ rest))
+    ≡ numbered_kind (kind_names p.kinds) n kind
+unfolding kind_of numbered_kind states_from
+kind-back p kind differ formed n rest =
+    let kinds = kind_names p.kinds in
+    let other = drop kind.arguments kind.variables in
+    let behind = states_lines kinds kind kind.states rest in
+    let var = variables-back other (n + 1) behind (states-end-code kinds kind kind.states rest) in
+    let named = skipped names_of_states (var_lines other) behind (n + 1) (skips-var names_of_states (λ vs n items. refl) other)
+    ∙ states-named kinds kind kind.states (n + 1 + length (var_lines other)) rest in
+    let positions : Positions = record { kinds = kinds; variables = kind.variables; states = state_names kind.states } in
+    let states = skipped (states_from positions) (var_lines other) behind (n + 1) (skips-var (states_from positions) (λ vs n items. refl) other)
+    ∙ states-back positions p kind (are-positions p kind differ formed positions refl refl refl) kind.states (n + 1 + length (var_lines other)) rest formed.states in
+    rw (
+      inner-behind kinds kind rest,
+      var,
+      take-append-drop kind.arguments kind.variables,
+      length-take-le kind.arguments kind.variables formed.arguments_are_variables,
+      named,
+      states,
+    ) refl
+
+-- ---- all kinds
+
+kinds-skip : (kinds : List (List ℕ)) → SkipsInside (kinds_from kinds)
+unfolding kinds_from
+kinds-skip kinds = record {
+  var = λ variables n items. refl;
+  state = λ name holds settled n items. refl;
+  step = λ step n items. refl;
+  ends = λ n items. refl;
+}
+
+names-skip : SkipsInside names_of_kinds
+names-skip = record {
+  var = λ variables n items. refl;
+  state = λ name holds settled n items. refl;
+  step = λ step n items. refl;
+  ends = λ n items. refl;
+}
+
+pub kinds-back : (p : Program) → AllDiffer (kind_names p.kinds) → (rest : List What) → ((n : ℕ) → kinds_from (kind_names p.kinds) (items_at n rest) ≡ [])
+    → (kinds : List Kind) (n : ℕ) → Each kinds (IsFormedKind p)
+    → kinds_from (kind_names p.kinds) (items_at n (flat_map (kind_lines (kind_names p.kinds)) kinds ++ rest)) ≡ numbered_kinds (kind_names p.kinds) n kinds
+unfolding kinds_from kind_lines numbered_kinds
+kinds-back p differ rest none [] n formed = none n
+kinds-back p differ rest none (kind ∷ more) n formed =
+    let names = kind_names p.kinds in
+    let inner = inner_lines names kind in
+    let later = flat_map (kind_lines names) more ++ rest in
+    let e : n + 1 + length inner ≡ n + suc (length inner) = omega arith in
+    rw (
+      append_assoc inner (flat_map (kind_lines names) more) rest,
+      kind-back p kind differ (formed zero kind refl) n later,
+      skipped (kinds_from names) inner later (n + 1) (skips-inner (kinds_from names) (kinds-skip names) names kind),
+      e,
+      kinds-back p differ rest none more (n + suc (length inner)) (λ i. formed (suc i)),
+    ) refl
+
+pub kinds-named : (names : List (List ℕ)) (rest : List What) → ((n : ℕ) → names_of_kinds (items_at n rest) ≡ [])
+    → (kinds : List Kind) (n : ℕ) → names_of_kinds (items_at n (flat_map (kind_lines names) kinds ++ rest)) ≡ kind_names kinds
+unfolding kind_lines
+kinds-named names rest none [] n = none n
+kinds-named names rest none (kind ∷ more) n =
+    let inner = inner_lines names kind in
+    let later = flat_map (kind_lines names) more ++ rest in
+    rw (
+      append_assoc inner (flat_map (kind_lines names) more) rest,
+      skipped names_of_kinds inner later (n + 1) (skips-inner names_of_kinds names-skip names kind),
+      kinds-named names rest none more (n + 1 + length inner),
+    ) refl

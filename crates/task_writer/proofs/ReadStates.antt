@@ -1,0 +1,71 @@
+-- The variables and the states of a kind are read back.
+use Rattle.std.proofs.Common.{◌≡◌, ℕ, zero, suc, ◌+◌, List, [], ◌∷◌, ◌++◌, map, length, refl, append_assoc, append-nil, arith}
+use Rattle.std.specs.List.{flat_map}
+use Rattle.task_syntax.specs.Places.{Each}
+use Rattle.task_syntax.specs.Form.{IsFormedState}
+use Rattle.task_syntax.specs.declared.program.Variable.{Variable}
+use Rattle.task_syntax.specs.declared.program.State.{State}
+use Rattle.task_syntax.specs.declared.program.Kind.{Kind}
+use Rattle.task_syntax.specs.declared.program.Program.{Program}
+use Rattle.task_lines.specs.declared.item.What.{What}
+use Rattle.task_lines.specs.declared.item.What.TheVariants as what
+use Rattle.task_reader.specs.declared.positions.Positions.{Positions}
+use Rattle.task_reader.specs.Names.{state_names}
+use Rattle.task_reader.specs.Program.{states_from, variables_from}
+use Rattle.task_writer.specs.Lines.{kind_names, names_in, code_lines, state_lines, var_lines}
+use Rattle.task_writer.specs.Numbering.{numbered_states}
+use Rattle.task_writer.proofs.Itemized.{items_at}
+use Rattle.task_writer.proofs.Skipped.{skipped, skips-code}
+use Rattle.task_writer.proofs.ReadCode.{AreOf, EndsCode, code-back, futures-back, from-start}
+
+-- the lines of states, behind which their kind ends
+abbrev pub states_lines : List (List ℕ) → Kind → List State → List What → List What
+states_lines kinds kind states rest = flat_map (state_lines kinds kind) states ++ what.End ∷ rest
+
+pub states-end-code : (kinds : List (List ℕ)) (kind : Kind) (states : List State) (rest : List What) → EndsCode (states_lines kinds kind states rest)
+unfolding state_lines
+states-end-code kinds kind [] rest = tt
+states-end-code kinds kind (s ∷ states) rest = tt
+
+pub states-back : (positions : Positions) (p : Program) (kind : Kind) → AreOf positions p kind → (states : List State) (n : ℕ) (rest : List What) → Each states (IsFormedState p kind)
+    → states_from positions (items_at n (states_lines (kind_names p.kinds) kind states rest)) ≡ numbered_states (λ state. length (state_lines (kind_names p.kinds) kind state)) n states
+unfolding states_from state_lines numbered_states
+states-back positions p kind are [] n rest formed = refl
+states-back positions p kind are (s ∷ states) n rest formed =
+    let kinds = kind_names p.kinds in
+    let here = formed zero s refl in
+    let code = code_lines (names_in kinds kind s) s.code in
+    let later = states_lines kinds kind states rest in
+    let e : n + 1 + length code ≡ n + suc (length code) = omega arith in
+    let parted = append_assoc code (flat_map (state_lines kinds kind) states) (what.End ∷ rest) in
+    rw (
+      parted,
+      futures-back positions p kind are s.holds here.holds,
+      futures-back positions p kind are s.settled here.settled,
+      code-back positions p kind are s here.instrs s.code 0 (n + 1) later (states-end-code kinds kind states rest) here.labels_differ (from-start s.code),
+      skipped (states_from positions) code later (n + 1) (skips-code (states_from positions) (λ step n items. refl) kinds kind s s.code),
+      e,
+      states-back positions p kind are states (n + suc (length code)) rest (λ i. formed (suc i)),
+    ) refl
+
+pub states-named : (kinds : List (List ℕ)) (kind : Kind) (states : List State) (n : ℕ) (rest : List What)
+    → state_names (items_at n (states_lines kinds kind states rest)) ≡ map (λ (s : State). s.name) states
+unfolding state_lines
+states-named kinds kind [] n rest = refl
+states-named kinds kind (s ∷ states) n rest =
+    let code = code_lines (names_in kinds kind s) s.code in
+    let later = states_lines kinds kind states rest in
+    rw (
+      append_assoc code (flat_map (state_lines kinds kind) states) (what.End ∷ rest),
+      skipped state_names code later (n + 1) (skips-code state_names (λ step n items. refl) kinds kind s s.code),
+      states-named kinds kind states (n + 1 + length code) rest,
+    ) refl
+
+no-variables : (n : ℕ) (rest : List What) → EndsCode rest → variables_from (items_at n rest) ≡ []
+no-variables n (what.State name holds settled ∷ rest) ends = refl
+no-variables n (what.End ∷ rest) ends = refl
+no-variables n _ ends = absurd ends
+
+pub variables-back : (variables : List Variable) (n : ℕ) (rest : List What) → EndsCode rest → variables_from (items_at n (var_lines variables ++ rest)) ≡ variables
+variables-back [] n rest ends = no-variables n rest ends
+variables-back (v ∷ vs) n rest ends = rw (no-variables (n + 1) rest ends) (append-nil (v ∷ vs))

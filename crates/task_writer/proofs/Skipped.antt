@@ -1,0 +1,66 @@
+-- Lines of which a reading takes no notice.
+use Rattle.std.proofs.Common.{◌≡◌, ℕ, suc, ◌+◌, List, [], ◌∷◌, ◌++◌, map, drop, length, ◌∙◌, ap, arith}
+use Rattle.std.specs.List.{flat_map}
+use Rattle.task_syntax.specs.declared.program.Variable.{Variable}
+use Rattle.task_syntax.specs.declared.program.State.{State}
+use Rattle.task_syntax.specs.declared.program.Kind.{Kind}
+use Rattle.task_syntax.specs.declared.instr.Line.{Line}
+use Rattle.task_lines.specs.declared.step.Step.{Step}
+use Rattle.task_lines.specs.declared.item.What.{What}
+use Rattle.task_lines.specs.declared.item.What.TheVariants as what
+use Rattle.task_lines.specs.declared.item.Item.{Item}
+use Rattle.task_writer.specs.Lines.{names_in, code_lines, state_lines, var_lines}
+use Rattle.task_writer.proofs.Itemized.{items_at}
+
+abbrev pub Skips : {Y : Type 0} → (List Item → Y) → What → Type 0
+Skips F w = (n : ℕ) (items : List Item) → (let item : Item = record { line = n; what = w } in F (item ∷ items) ≡ F items)
+
+abbrev pub SkipsAll : {Y : Type 0} → (List Item → Y) → List What → Type 0
+SkipsAll F [] = Unit {0}
+SkipsAll F (w ∷ ws) = Skips F w × SkipsAll F ws
+
+pub skipped : {Y : Type 0} (F : List Item → Y) (ws rest : List What) (n : ℕ) → SkipsAll F ws → F (items_at n (ws ++ rest)) ≡ F (items_at (n + length ws) rest)
+skipped F [] rest n skips = let e : n ≡ n + 0 = omega arith in ap (λ k. F (items_at k rest)) e
+skipped F (w ∷ ws) rest n skips = let e : n + 1 + length ws ≡ n + suc (length ws) = omega arith in
+    skips.0 n (items_at (n + 1) (ws ++ rest)) ∙ (skipped F ws rest (n + 1) skips.1 ∙ ap (λ k. F (items_at k rest)) e)
+
+pub skips-append : {Y : Type 0} (F : List Item → Y) (xs ys : List What) → SkipsAll F xs → SkipsAll F ys → SkipsAll F (xs ++ ys)
+skips-append F [] ys g h = h
+skips-append F (x ∷ xs) ys g h = (g.0, skips-append F xs ys g.1 h)
+
+pub skips-flat : {X Y : Type 0} (F : List Item → Y) (f : X → List What) → ((x : X) → SkipsAll F (f x)) → (xs : List X) → SkipsAll F (flat_map f xs)
+skips-flat F f each [] = tt
+skips-flat F f each (x ∷ xs) = skips-append F (f x) (flat_map f xs) (each x) (skips-flat F f each xs)
+
+pub skips-map : {X Y : Type 0} (F : List Item → Y) (f : X → What) → ((x : X) → Skips F (f x)) → (xs : List X) → SkipsAll F (map f xs)
+skips-map F f each [] = tt
+skips-map F f each (x ∷ xs) = (each x, skips-map F f each xs)
+
+pub skips-code : {Y : Type 0} (F : List Item → Y) → ((step : Step) → Skips F (what.Step step)) → (kinds : List (List ℕ)) (kind : Kind) (state : State) (code : List Line)
+    → SkipsAll F (code_lines (names_in kinds kind state) code)
+skips-code F each kinds kind state code = skips-map F _ (λ l. each _) code
+
+pub skips-var : {Y : Type 0} (F : List Item → Y) → ((variables : List Variable) → Skips F (what.Var variables)) → (variables : List Variable) → SkipsAll F (var_lines variables)
+skips-var F each [] = tt
+skips-var F each (v ∷ vs) = (each (v ∷ vs), tt)
+
+-- the lines of a kind behind its first
+abbrev pub inner_lines : List (List ℕ) → Kind → List What
+inner_lines kinds kind = var_lines (drop kind.arguments kind.variables) ++ (flat_map (state_lines kinds kind) kind.states ++ what.End ∷ [])
+
+-- no notice of what stands inside a kind
+pub record SkipsInside {Y : Type 0} (F : List Item → Y) : Type 0 where
+  pub var : (variables : List Variable) → Skips F (what.Var variables)
+  pub state : (name : List ℕ) (holds settled : List (List ℕ)) → Skips F (what.State name holds settled)
+  pub step : (step : Step) → Skips F (what.Step step)
+  pub ends : Skips F what.End
+
+skips-state : {Y : Type 0} (F : List Item → Y) → SkipsInside F → (kinds : List (List ℕ)) (kind : Kind) (state : State) → SkipsAll F (state_lines kinds kind state)
+unfolding state_lines
+skips-state F skips kinds kind state = (skips.state _ _ _, skips-code F skips.step kinds kind state state.code)
+
+pub skips-inner : {Y : Type 0} (F : List Item → Y) → SkipsInside F → (kinds : List (List ℕ)) (kind : Kind) → SkipsAll F (inner_lines kinds kind)
+skips-inner F skips kinds kind =
+    let states = flat_map (state_lines kinds kind) kind.states in
+    skips-append F (var_lines (drop kind.arguments kind.variables)) (states ++ what.End ∷ []) (skips-var F skips.var (drop kind.arguments kind.variables))
+    (skips-append F states (what.End ∷ []) (skips-flat F (state_lines kinds kind) (skips-state F skips kinds kind) kind.states) (skips.ends, tt))

@@ -1,0 +1,177 @@
+-- The lines of a state of a well-formed program may stand one behind the other.
+use Rattle.std.proofs.Common.{◌≡◌, ℕ, suc, ◌+◌, Some, option_map, List, [], ◌∷◌, ◌++◌, length, slice_get, refl, sym, ◌∙◌, ap, subst, arith, append_assoc, append-nil}
+use Rattle.std.proofs.lemmas.List.{length-map, length-append}
+use Rattle.task_syntax.specs.Places.{AllDiffer, instr_at}
+use Rattle.task_syntax.specs.Form.{IsFormedInstr, IsFormedState, IsLabel, IsLabelAhead, Ends, Leaves, labels_of}
+use Rattle.task_syntax.specs.declared.program.State.{State}
+use Rattle.task_syntax.specs.declared.program.Kind.{Kind}
+use Rattle.task_syntax.specs.declared.program.Program.{Program}
+use Rattle.task_syntax.specs.declared.instr.Instr.{Instr}
+use Rattle.task_syntax.specs.declared.instr.Instr.TheVariants.{If, Goto, Label, Spawn, All, Again, Done}
+use Rattle.task_syntax.specs.declared.instr.Line.{Line}
+use Rattle.task_lines.specs.declared.item.What.{What}
+use Rattle.task_lines.specs.declared.item.What.TheVariants as what
+use Rattle.task_lines.specs.declared.scope.Place.{Place}
+use Rattle.task_lines.specs.declared.scope.Place.TheVariants.{Outside, Code, Jumped, Ended}
+use Rattle.task_lines.specs.declared.scope.Scope.{Scope}
+use Rattle.task_lines.specs.Scope.{place_behind, labels_behind, after}
+use Rattle.task_lines.specs.Grammar.{IsNew, IsInState, MayFollow, MayName, MayStand, RowsSpellFrom}
+use Rattle.task_writer.specs.Lines.{Names, name_at, kind_names, label_names, names_in, step_of, code_lines}
+use Rattle.task_writer.proofs.Itemized.{items_at, rows_at}
+use Rattle.task_writer.proofs.Writable.{IsWritable, line-spelled}
+use Rattle.task_writer.proofs.WritableSteps.{AreNamed, step-writable}
+use Rattle.task_writer.proofs.Found.{get-behind, get-here, get-next, new-before, length-front}
+use Rattle.task_writer.proofs.ReadCode.{label-listed, label-at}
+
+-- the lines may be written and may stand, and the last one closes what is open
+abbrev pub Stands : Scope → List What → Type 0
+Stands s [] = s.place ≡ Outside
+Stands s (w ∷ ws) = IsWritable w × MayStand s w × Stands (after s w) ws
+
+pub rows-spell : (ws : List What) (s : Scope) (at : ℕ) → Stands s ws → RowsSpellFrom s (rows_at at ws) (items_at at ws)
+rows-spell [] s at h = h
+rows-spell (w ∷ ws) s at h = (refl, line-spelled w h.0, h.1, rows-spell ws (after s w) (at + 1) h.2)
+
+-- ---- places
+
+any-follows : (n : Names) (b : Instr) → MayFollow Code (step_of n b)
+unfolding step_of
+any-follows n (Label name) = tt
+any-follows n _ = refl
+
+label-follows : (n : Names) (place : Place) → IsInState place → (b : Instr) → IsLabel b → MayFollow place (step_of n b)
+unfolding step_of
+label-follows n place is (Label name) h = is
+label-follows n place is _ h = absurd h
+
+follows : (n : Names) (a b : Instr) → (Leaves a → IsLabel b) → MayFollow (place_behind (step_of n a)) (step_of n b)
+unfolding step_of
+follows n (Goto target) b h = label-follows n Jumped tt b (h tt)
+follows n (Again target behind priority) b h = label-follows n Ended tt b (h tt)
+follows n (Done value) b h = label-follows n Ended tt b (h tt)
+follows n _ b h = any-follows n b
+
+ends-place : (n : Names) (a : Instr) → Ends a → place_behind (step_of n a) ≡ Ended
+unfolding step_of
+ends-place n (Again target behind priority) h = refl
+ends-place n (Done value) h = refl
+ends-place n _ h = absurd h
+
+-- ---- labels
+
+labels-append : (xs ys : List Line) → labels_of (xs ++ ys) ≡ labels_of xs ++ labels_of ys
+labels-append [] ys = refl
+labels-append (l ∷ xs) ys = by l.instr refl (labels-append xs ys) where
+  by : (instr : Instr) → l.instr ≡ instr → labels_of (xs ++ ys) ≡ labels_of xs ++ labels_of ys → labels_of (l ∷ (xs ++ ys)) ≡ labels_of (l ∷ xs) ++ labels_of ys
+  by (Label name) f r = rw f (ap (λ z. name ∷ z) r)
+  by _ f r = rw f r
+
+labels-step : (n : Names) (l : Line) (labels : List (List ℕ)) → labels_behind (step_of n l.instr) labels ≡ labels ++ labels_of (l ∷ [])
+unfolding step_of
+labels-step n l labels = by l.instr refl where
+  by : (instr : Instr) → l.instr ≡ instr → labels_behind (step_of n instr) labels ≡ labels ++ labels_of (l ∷ [])
+  by (Label name) f = rw f refl
+  by _ f = rw f (sym (append-nil labels))
+
+-- ---- the code of a state
+
+-- the scope behind the first lines of a state
+pub record InCode (kind : Kind) (kinds roots states : List (List ℕ)) (front : List Line) (s : Scope) : Type 0 where
+  pub kinds_are : s.kinds ≡ kinds
+  pub roots_are : s.roots ≡ roots
+  pub variables_are : s.variables ≡ kind.variables
+  pub states_are : s.states ≡ states
+  pub labels_are : s.labels ≡ labels_of front
+  pub steps_are : s.steps ≡ length front
+
+in-next : (kind : Kind) (kinds roots states : List (List ℕ)) (front : List Line) (s : Scope) (n : Names) (l : Line) → InCode kind kinds roots states front s
+    → InCode kind kinds roots states (front ++ l ∷ []) (after s (what.Step (step_of n l.instr)))
+in-next kind kinds roots states front s n l i = record {
+  kinds_are = i.kinds_are;
+  roots_are = i.roots_are;
+  variables_are = i.variables_are;
+  states_are = i.states_are;
+  labels_are = ap (labels_behind (step_of n l.instr)) i.labels_are ∙ (labels-step n l (labels_of front) ∙ sym (labels-append front (l ∷ [])));
+  steps_are = ap (λ k. k + 1) i.steps_are ∙ sym (length-append front (l ∷ []));
+}
+
+-- the label of a line that stands at or behind a place is new there
+label-new : (front : List Line) (back code : List Line) (j : ℕ) (line : Line) (name : List ℕ) (labels : List (List ℕ)) → code ≡ front ++ back → AllDiffer (labels_of code) → labels ≡ labels_of front
+    → slice_get back j ≡ Some line → line.instr ≡ Label name → IsNew name labels
+label-new front back code j line name labels e differ is stands label =
+    let listed = label-listed back j line name stands label in
+    let apart : AllDiffer (labels_of front ++ labels_of back) = subst (λ ls. AllDiffer ls) (ap labels_of e ∙ labels-append front back) differ in
+    subst (λ ls. IsNew name ls) (sym is) (new-before (labels_of front) (labels_of back) listed.0 name apart listed.1)
+
+target-new : (state : State) (front : List Line) (l : Line) (more : List Line) (labels : List (List ℕ)) → state.code ≡ front ++ l ∷ more → AllDiffer (labels_of state.code) → labels ≡ labels_of front
+    → (target : ℕ) → IsLabelAhead state (length front) target → IsNew (name_at (label_names state.code) target) labels
+target-new state front l more labels e differ is target ahead =
+    let label = label-at state (length front) more from target ahead in
+    subst (λ name. IsNew name labels) (sym label.called) (label-new front (l ∷ more) state.code (suc label.place) label.line label.name labels e differ is label.stands label.is) where
+      from : (j : ℕ) → slice_get state.code (length front + 1 + j) ≡ slice_get more j
+      from j = let i : length front + 1 + j ≡ length front + suc j = omega arith in ap (λ (c : List Line). slice_get c (length front + 1 + j)) e ∙ (ap (slice_get (front ++ l ∷ more)) i ∙ get-behind front (l ∷ more) (suc j))
+
+may-name : (p : Program) (kind : Kind) (state : State) (front : List Line) (l : Line) (more : List Line) (s : Scope) → state.code ≡ front ++ l ∷ more → AllDiffer (labels_of state.code)
+    → s.labels ≡ labels_of front → (instr : Instr) → l.instr ≡ instr → IsFormedInstr p kind state (length front) instr → MayName s (step_of (names_in (kind_names p.kinds) kind state) instr)
+unfolding step_of
+may-name p kind state front l more s e differ is (Label name) i f = label-new front (l ∷ more) state.code 0 l name s.labels e differ is refl i
+may-name p kind state front l more s e differ is (If relation left right target) i f = target-new state front l more s.labels e differ is target f.2
+may-name p kind state front l more s e differ is (Goto target) i f = target-new state front l more s.labels e differ is target f
+may-name p kind state front l more s e differ is (Spawn to callee arguments behind priority retry) i f = rw length-map f.2
+may-name p kind state front l more s e differ is (All to members priority retry) i f = rw length-map f.2
+may-name p kind state front l more s e differ is _ i f = tt
+
+-- one line of the code may be written, and may stand where its place allows it
+line-stands : (p : Program) (kind : Kind) (state : State) → AreNamed p kind state → IsFormedState p kind state → (kinds roots states : List (List ℕ)) (front : List Line) (l : Line) (more : List Line) (s : Scope)
+    → state.code ≡ front ++ l ∷ more → InCode kind kinds roots states front s → MayFollow s.place (step_of (names_in (kind_names p.kinds) kind state) l.instr)
+    → let w = what.Step (step_of (names_in (kind_names p.kinds) kind state) l.instr) in IsWritable w × MayStand s w
+line-stands p kind state named formed kinds roots states front l more s e i follow =
+    let at : slice_get state.code (length front) ≡ Some l = ap (λ (c : List Line). slice_get c (length front)) e ∙ get-here front l more in
+    let f = formed.instrs (length front) l at in
+    let short = length-front front l more state.code e in
+    let fits = formed.fits in
+    let steps = i.steps_are in
+    (step-writable p kind state named (length front) l.instr f, (follow, omega (arith, short, fits, steps), may-name p kind state front l more s e formed.labels_differ i.labels_are l.instr refl f))
+
+instr-here : (state : State) (at : ℕ) (l : Line) → slice_get state.code at ≡ Some l → instr_at state at ≡ Some l.instr
+instr-here state at l e = ap (option_map (λ (l : Line). l.instr)) e
+
+last-ends : (p : Program) (kind : Kind) (state : State) (front : List Line) (last : Line) → IsFormedState p kind state → state.code ≡ front ++ last ∷ [] → Ends last.instr
+last-ends p kind state front last formed e =
+    let end = formed.ends in
+    let len : length state.code ≡ length front + 1 = ap (λ (c : List Line). length c) e ∙ length-append front (last ∷ []) in
+    let at : end.0 ≡ length front = let n = end.2 in omega (arith, n, len) in
+    let here : instr_at state (length front) ≡ Some last.instr = instr-here state (length front) last (ap (λ (c : List Line). slice_get c (length front)) e ∙ get-here front last []) in
+    let same : end.1 ≡ last.instr = some-instr end.1 last.instr (sym end.3 ∙ (ap (instr_at state) at ∙ here)) in
+    let P : Instr → Type 0 = Ends in subst P same end.4 where
+      some-instr : (a b : Instr) → Some a ≡ Some b → a ≡ b
+      some-instr a b e = cc
+
+-- what follows a state may stand behind its end
+abbrev pub Follows : Kind → List (List ℕ) → List (List ℕ) → List (List ℕ) → State → List What → Type 0
+Follows kind kinds roots states state tail = (t : Scope) → InCode kind kinds roots states state.code t → t.place ≡ Ended → Stands t tail
+
+-- the code behind an instruction
+code-rest : (p : Program) (kind : Kind) (state : State) → AreNamed p kind state → IsFormedState p kind state → (kinds roots states : List (List ℕ)) (tail : List What)
+    → Follows kind kinds roots states state tail → (todo front : List Line) (prev : Line) (s : Scope) → state.code ≡ front ++ prev ∷ todo → InCode kind kinds roots states (front ++ prev ∷ []) s
+    → s.place ≡ place_behind (step_of (names_in (kind_names p.kinds) kind state) prev.instr) → Stands s (code_lines (names_in (kind_names p.kinds) kind state) todo ++ tail)
+code-rest p kind state named formed kinds roots states tail next [] front prev s e i place =
+    next s (subst (λ (c : List Line). InCode kind kinds roots states c s) (sym e) i) (place ∙ ends-place (names_in (kind_names p.kinds) kind state) prev.instr (last-ends p kind state front prev formed e))
+code-rest p kind state named formed kinds roots states tail next (l ∷ todo) front prev s e i place =
+    let n = names_in (kind_names p.kinds) kind state in
+    let whole : state.code ≡ (front ++ prev ∷ []) ++ l ∷ todo = e ∙ sym (append_assoc front (prev ∷ []) (l ∷ todo)) in
+    let here = instr-here state (length front) prev (ap (λ (c : List Line). slice_get c (length front)) e ∙ get-here front prev (l ∷ todo)) in
+    let behind = instr-here state (length front + 1) l (ap (λ (c : List Line). slice_get c (length front + 1)) e ∙ get-next front prev l todo) in
+    let follow = follows n prev.instr l.instr (λ leaves. formed.left_by_label (length front) prev.instr l.instr here leaves behind) in
+    let stand = line-stands p kind state named formed kinds roots states (front ++ prev ∷ []) l todo s whole i (subst (λ (q : Place). MayFollow q (step_of n l.instr)) (sym place) follow) in
+    (stand.0, stand.1, code-rest p kind state named formed kinds roots states tail next todo (front ++ prev ∷ []) l (after s (what.Step (step_of n l.instr))) whole (in-next kind kinds roots states (front ++ prev ∷ []) s n l i) refl)
+
+pub code-stands : (p : Program) (kind : Kind) (state : State) → AreNamed p kind state → IsFormedState p kind state → (kinds roots states : List (List ℕ)) (tail : List What)
+    → Follows kind kinds roots states state tail → (code : List Line) (s : Scope) → state.code ≡ code → InCode kind kinds roots states [] s → s.place ≡ Code
+    → Stands s (code_lines (names_in (kind_names p.kinds) kind state) code ++ tail)
+code-stands p kind state named formed kinds roots states tail next [] s e i place =
+    let n = formed.ends.2 in let len : length state.code ≡ 0 = ap (λ (c : List Line). length c) e in absurd (omega (arith, n, len))
+code-stands p kind state named formed kinds roots states tail next (l ∷ todo) s e i place =
+    let n = names_in (kind_names p.kinds) kind state in
+    let stand = line-stands p kind state named formed kinds roots states [] l todo s e i (subst (λ (q : Place). MayFollow q (step_of n l.instr)) (sym place) (any-follows n l.instr)) in
+    (stand.0, stand.1, code-rest p kind state named formed kinds roots states tail next todo [] l (after s (what.Step (step_of n l.instr))) e (in-next kind kinds roots states [] s n l i) refl)

@@ -1,0 +1,121 @@
+-- Every instruction of a well-formed program may be written.
+use Rattle.std.proofs.Common.{◌≡◌, ◌≢◌, ℕ, zero, suc, ◌+◌, ◌<◌, Option, Some, None, option_map, List, [], ◌∷◌, map, drop, length, slice_get, refl, sym, ◌∙◌, ap, subst, arith}
+use Rattle.std.proofs.lemmas.List.{length-map}
+use Rattle.std.specs.Prelude.{IfSome}
+use Rattle.task_syntax.specs.Names.{IsName}
+use Rattle.task_syntax.specs.Places.{EachAt, Each, IsFutureAt}
+use Rattle.task_syntax.specs.Form.{IsFormedOperand, IsFormedArgument, IsFormedInstr, IsFormedState, IsFormedKind, IsLabelAhead}
+use Rattle.task_syntax.specs.declared.program.Sort.{Sort}
+use Rattle.task_syntax.specs.declared.program.Sort.TheVariants as sort
+use Rattle.task_syntax.specs.declared.program.Variable.{Variable}
+use Rattle.task_syntax.specs.declared.program.State.{State}
+use Rattle.task_syntax.specs.declared.program.Kind.{Kind}
+use Rattle.task_syntax.specs.declared.program.Program.{Program}
+use Rattle.task_syntax.specs.declared.instr.Operand.{Operand}
+use Rattle.task_syntax.specs.declared.instr.Operand.TheVariants as operand
+use Rattle.task_syntax.specs.declared.instr.Argument.{Argument}
+use Rattle.task_syntax.specs.declared.instr.Argument.TheVariants as argument
+use Rattle.task_syntax.specs.declared.instr.Instr.{Instr}
+use Rattle.task_syntax.specs.declared.instr.Instr.TheVariants.{Set, Math, If, Goto, Label, Cell, Rows, Spawn, All, Copy, Drop, Get, Again, Done}
+use Rattle.task_syntax.proofs.Differ.{get-map}
+use Rattle.task_writer.specs.Lines.{name_at, kind_names, variable_names, label_names, names_in, term_of, passed_of, step_of}
+use Rattle.task_writer.proofs.Named.{name-found}
+use Rattle.task_writer.proofs.ReadPlaces.{named-at, stands-at}
+use Rattle.task_writer.proofs.ReadCode.{label-at}
+use Rattle.task_writer.proofs.Writable.{AllOf, IsWritableTerm, IsWritablePassed, IsWritableStep}
+
+-- what stands at a position of named things has a name
+pub position-named : {X : Type 0} (name : X → List ℕ) (xs : List X) → Each xs (λ x. IsName (name x)) → (at : ℕ) → at < length xs → IsName (name_at (map name xs) at)
+position-named name xs h at l =
+    let e = named-at (map name xs) at (rw length-map l) in
+    let x = get-map name xs at (name_at (map name xs) at) e in
+    subst IsName x.2 (h at x.0 x.1)
+
+-- the names of the kinds, and those of a kind and a state
+pub record AreNamed (p : Program) (kind : Kind) (state : State) : Type 0 where
+  pub kinds : Each p.kinds (λ (k : Kind). IsName k.name)
+  pub variables : Each kind.variables (λ (v : Variable). IsName v.name)
+  pub states : Each kind.states (λ (s : State). IsName s.name)
+  pub labels : (at target : ℕ) → IsLabelAhead state at target → IsName (name_at (label_names state.code) target)
+
+pub variable-named : (kind : Kind) → Each kind.variables (λ (v : Variable). IsName v.name) → (sort : Sort) (at : ℕ)
+    → option_map (λ (v : Variable). v.sort) (slice_get kind.variables at) ≡ Some sort → IsName (name_at (variable_names kind.variables) at)
+variable-named kind h sort at e =
+    let s = stands-at kind.variables sort at e in
+    subst IsName (sym (name-found (λ (v : Variable). v.name) kind.variables at s.variable s.stands)) (h at s.variable s.stands)
+
+from-next-all : {X : Type 0} (all : List X) (j : ℕ) → slice_get all (0 + 1 + j) ≡ slice_get (drop 1 all) j
+from-next-all [] j = refl
+from-next-all (x ∷ xs) j = let e : 0 + 1 + j ≡ suc j = omega arith in ap (slice_get (x ∷ xs)) e
+
+-- the label at a target has a name
+label-named : (p : Program) (kind : Kind) (state : State) → EachAt state.code (λ at line. IsFormedInstr p kind state at line.instr)
+    → (at target : ℕ) → IsLabelAhead state at target → IsName (name_at (label_names state.code) target)
+label-named p kind state formed at target ahead =
+    let label = label-at state 0 (drop 1 state.code) (from-next-all state.code) target (omega (arith, ahead.0), ahead.1) in
+    subst IsName (sym label.called)
+    (by label.line.instr label.name label.is (formed target label.line (ap (slice_get state.code) (sym label.sum) ∙ (from-next-all state.code label.place ∙ label.stands)))) where
+      by : (instr : Instr) (name : List ℕ) → instr ≡ Label name → IsFormedInstr p kind state target instr → IsName name
+      by instr name e f = let P : Instr → Type 0 = IsFormedInstr p kind state target in subst P e f
+
+pub are-named : (p : Program) (kind : Kind) (state : State) → Each p.kinds (λ (k : Kind). IsName k.name) → IsFormedKind p kind → IsFormedState p kind state → AreNamed p kind state
+are-named p kind state kinds k s = record {
+  kinds = kinds;
+  variables = k.variable_names;
+  states = λ i state e. (k.states i state e).name;
+  labels = label-named p kind state s.instrs;
+}
+
+-- ---- instructions
+
+term-writable : (kind : Kind) → Each kind.variables (λ (v : Variable). IsName v.name) → (a : Operand) → IsFormedOperand kind a → IsWritableTerm (term_of (variable_names kind.variables) a)
+term-writable kind h (operand.Literal n) f = f
+term-writable kind h (operand.Variable at) f = variable-named kind h sort.Number at f
+
+passed-writable : (kind : Kind) → Each kind.variables (λ (v : Variable). IsName v.name) → (a : Argument) → IsFormedArgument kind a → IsWritablePassed (passed_of (variable_names kind.variables) a)
+passed-writable kind h (argument.Number a) f = term-writable kind h a f
+passed-writable kind h (argument.Future at) f = variable-named kind h sort.Future at f
+
+pub all-writable : {A B : Type 0} (P : A → Type 0) (Q : B → Type 0) (f : A → B) → ((a : A) → P a → Q (f a)) → (xs : List A) → Each xs P → AllOf Q (map f xs)
+all-writable P Q f one [] h = tt
+all-writable P Q f one (x ∷ xs) h = (one x (h zero x refl), all-writable P Q f one xs (λ i. h (suc i)))
+
+pub some-writable : {A : Type 0} (P : A → Type 0) (f : A → List ℕ) → ((a : A) → P a → IsName (f a)) → (o : Option A) → IfSome o P → IfSome (option_map f o) IsName
+some-writable P f one None h = tt
+some-writable P f one (Some a) h = one a h
+
+pub map-begun : {A B : Type 0} (f : A → B) (xs : List A) → 0 < length xs → map f xs ≢ []
+map-begun f [] h e = omega (arith, h)
+map-begun f (x ∷ xs) h e = cc
+
+pub step-writable : (p : Program) (kind : Kind) (state : State) → AreNamed p kind state → (at : ℕ) (instr : Instr) → IsFormedInstr p kind state at instr
+    → IsWritableStep (step_of (names_in (kind_names p.kinds) kind state) instr)
+unfolding step_of
+step-writable p kind state n at (Set to value) f = (variable-named kind n.variables sort.Number to f.0, term-writable kind n.variables value f.1)
+step-writable p kind state n at (Math op to left right) f =
+    (variable-named kind n.variables sort.Number to f.0, term-writable kind n.variables left f.1, term-writable kind n.variables right f.2)
+step-writable p kind state n at (If relation left right target) f =
+    (term-writable kind n.variables left f.0, term-writable kind n.variables right f.1, n.labels at target f.2)
+step-writable p kind state n at (Goto target) f = n.labels at target f
+step-writable p kind state n at (Label name) f = f
+step-writable p kind state n at (Cell to column row) f = (variable-named kind n.variables sort.Number to f.0, f.1, term-writable kind n.variables row f.2)
+step-writable p kind state n at (Rows to column) f = (variable-named kind n.variables sort.Number to f.0, f.1)
+step-writable p kind state n at (Spawn to callee arguments behind priority retry) f = (
+  variable-named kind n.variables sort.Future to f.0,
+  position-named (λ (k : Kind). k.name) p.kinds n.kinds callee f.1,
+  all-writable (IsFormedArgument kind) IsWritablePassed (passed_of (variable_names kind.variables)) (passed-writable kind n.variables) arguments f.3,
+  some-writable (IsFutureAt kind) (name_at (variable_names kind.variables)) (variable-named kind n.variables sort.Future) behind f.4,
+)
+step-writable p kind state n at (All to members priority retry) f = (
+  variable-named kind n.variables sort.Future to f.0,
+  map-begun (name_at (variable_names kind.variables)) members f.1,
+  all-writable (IsFutureAt kind) IsName (name_at (variable_names kind.variables)) (variable-named kind n.variables sort.Future) members f.3,
+)
+step-writable p kind state n at (Copy to source) f = (variable-named kind n.variables sort.Future to f.0, variable-named kind n.variables sort.Future source f.1)
+step-writable p kind state n at (Drop future) f = variable-named kind n.variables sort.Future future f
+step-writable p kind state n at (Get to future) f = (variable-named kind n.variables sort.Number to f.0, variable-named kind n.variables sort.Future future f.1)
+step-writable p kind state n at (Again target behind priority) f = (
+  position-named (λ (s : State). s.name) kind.states n.states target f.0,
+  some-writable (IsFutureAt kind) (name_at (variable_names kind.variables)) (variable-named kind n.variables sort.Future) behind f.1,
+)
+step-writable p kind state n at (Done value) f = term-writable kind n.variables value f

@@ -1,0 +1,9 @@
+use Rattle.std.proofs.Common.{◌≡◌, ◌++◌, map, take}
+use Rattle.task_syntax.specs.declared.instr.Argument.{Argument}
+use Rattle.task_writer.specs.Lines.{passed_of, variable_names}
+use Rattle.task_writer.specs.Words.{passed_word}
+use Rattle.task_writer.specs.Text.{spaced}
+use Rattle.task_writer.proofs.list.put_arguments.Given as goal
+
+abbrev pub invariant-loop-argument : goal.invariant-loop-argument
+invariant-loop-argument l = l.out.items ≡ l.initial.out.items ++ spaced (map (λ (a : Argument). passed_word (passed_of (variable_names l.variables) a)) (take l.argument-index l.arguments))

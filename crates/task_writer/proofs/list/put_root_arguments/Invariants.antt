@@ -1,0 +1,9 @@
+use Rattle.std.proofs.Common.{◌≡◌, ◌++◌, map, take}
+use Rattle.task_syntax.specs.declared.program.RootArgument.{RootArgument}
+use Rattle.task_writer.specs.Lines.{root_term_of, root_names}
+use Rattle.task_writer.specs.Words.{root_term_word}
+use Rattle.task_writer.specs.Text.{spaced}
+use Rattle.task_writer.proofs.list.put_root_arguments.Given as goal
+
+abbrev pub invariant-loop-argument : goal.invariant-loop-argument
+invariant-loop-argument l = l.out.items ≡ l.initial.out.items ++ spaced (map (λ (a : RootArgument). root_term_word (root_term_of (root_names l.roots) a)) (take l.argument-index l.arguments))

@@ -1,0 +1,8 @@
+use Rattle.std.proofs.Common.{◌≡◌, ◌++◌, map, take}
+use Rattle.task_syntax.specs.declared.program.Variable.{Variable}
+use Rattle.task_writer.specs.Words.{variable_word}
+use Rattle.task_writer.specs.Text.{spaced}
+use Rattle.task_writer.proofs.list.put_variables.Given as goal
+
+abbrev pub invariant-loop-variable : goal.invariant-loop-variable
+invariant-loop-variable l = l.out.items ≡ l.initial.out.items ++ spaced (map (λ (a : Variable). variable_word a) (take l.variable-index l.variables))
