@@ -1,4 +1,4 @@
-//! `ktask`: runs a task program and prints how each root ended.
+//! `ktask`: runs a task program and prints how each root ended, checks one, or prints its canonical text.
 #![tactic(auto)]
 
 use ktask_cli::file_shelf::FileShelf;

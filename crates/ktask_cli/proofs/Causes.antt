@@ -1,20 +1,20 @@
 -- Why a command's plan stops, and what its text is where it does not.
-use Rattle.std.proofs.Common.{◌≡◌, ℕ, List, Result, Ok, Err, IsErr, IsOkAnd, is_err, refl, sym, ◌∙◌, ap, subst}
+use Rattle.std.proofs.Common.{◌≡◌, ℕ, List, Result, Ok, Err, IsErr, IsOkAnd, refl, sym, ap, subst}
 use Rattle.task_syntax.specs.Valid.{IsValid}
 use Rattle.task_syntax.specs.declared.program.Program.{Program}
 use Rattle.task_text.specs.Fault.{number_of}
 use Rattle.task_text.specs.declared.fault.Fault.{Fault}
 use Rattle.task_reader.specs.Read.{program_in}
-use Rattle.ktask_cli.specs.declared.choice.Command.{Command}
-use Rattle.ktask_cli.specs.declared.choice.Command.TheVariants.{Run, Check}
+use Rattle.task_writer.specs.Text.{text_of}
+use Rattle.ktask_cli.specs.declared.choice.Command.TheVariants.{Run, Check, Print}
 use Rattle.ktask_cli.specs.declared.fetch_error.FetchError.{FetchError}
 use Rattle.ktask_cli.specs.declared.stop.InputFile.TheVariants as file
 use Rattle.ktask_cli.specs.declared.stop.Stop.{Stop}
 use Rattle.ktask_cli.specs.declared.stop.Stop.TheVariants as stop
 use Rattle.ktask_cli.specs.Plan.{content_of}
-use Rattle.ktask_cli.specs.Ready.{read_from, read_in, Checks, sizes_line, program_under, valid_under, sizes_under}
+use Rattle.ktask_cli.specs.Ready.{read_from, read_in, Checks, sizes_line, program_under, valid_under, sizes_under, text_under}
 use Rattle.ktask_cli.specs.Seen.{ShelfSeen, Fetches}
-use Rattle.ktask_cli.specs.Statuses.{Suits, SuitsText}
+use Rattle.ktask_cli.specs.Statuses.{Suits}
 use Rattle.ktask_cli.specs.Stop.{status_of, fetch_stop}
 use Rattle.ktask_cli.proofs.Plans.{judged_ready, Stopped, judged_stop, wanted, earlier, here, content_read, content_refused}
 
@@ -110,4 +110,17 @@ check_stopped name was is s f = by (judged_stop (valid_under name) (λ q result.
   by : Stopped (valid_under name) (λ q result. result ≡ Ok (sizes_line q)) was is s → Cause (Suits Check) name was is s
   by (wanted e) = wants e
   by (earlier e) = valid_stopped (Suits Check) (λ p h. h) name was is s e
+  by (here p c e) = cc
+
+pub print_took : (name : List ℕ) (was is : ShelfSeen) (text : List ℕ) → text_under name was is (Ok text) → Took (Suits Print) name was is
+print_took name was is text f =
+    let j = judged_ready (program_under name) (λ q result. result ≡ Ok (text_of q)) was is text f in
+    let r = program_read name was is j.0 j.1 in
+    record { text = r.text; fetched = r.fetched; suits = suits_by (Suits Print) (program_in r.text) j.0 r.is_program tt }
+
+pub print_stopped : (name : List ℕ) (was is : ShelfSeen) (s : Stop) → text_under name was is (Err s) → Cause (Suits Print) name was is s
+print_stopped name was is s f = by (judged_stop (program_under name) (λ q result. result ≡ Ok (text_of q)) was is s f) where
+  by : Stopped (program_under name) (λ q result. result ≡ Ok (text_of q)) was is s → Cause (Suits Print) name was is s
+  by (wanted e) = wants e
+  by (earlier e) = program_stopped (Suits Print) name was is s e
   by (here p c e) = cc

@@ -1,5 +1,5 @@
 -- The lines of a report, from a root on.
-use Rattle.std.proofs.Common.{◌≡◌, ℕ, zero, suc, ◌+◌, ◌<◌, ◌≤◌, Bool, true, false, not, ◌&&◌, nat_le, List, [], ◌∷◌, ◌++◌, length, get_or, drop, drop-cons, Option, Some, None, slice_get, refl, ap, sym, ◌∙◌, subst, add-one, append_assoc, length-append, arith}
+use Rattle.std.proofs.Common.{◌≡◌, ℕ, suc, ◌+◌, ◌<◌, ◌≤◌, true, not, ◌&&◌, nat_le, List, [], ◌∷◌, ◌++◌, length, get_or, drop, drop-cons, Option, Some, slice_get, refl, ap, sym, ◌∙◌, subst, add-one, append_assoc, length-append, arith}
 use Rattle.std.proofs.lemmas.List.{drop_all}
 use Rattle.std.proofs.lemmas.Option.{get_or_from_slice_get, slice_get_within, slice_get_read}
 use Rattle.std.specs.Io.KnownBytes.{Appends}

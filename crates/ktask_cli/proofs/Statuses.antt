@@ -1,28 +1,26 @@
 -- Each status from the whole of what the tool did.
 use Rattle.std.proofs.lemmas.Bool.{eqb-false}
-use Rattle.std.proofs.Common.{nat_eq, ◌≡◌, ℕ, ◌<◌, ◌⊎◌, inl, inr, false, List, length, Option, Some, None, Result, Ok, Err, IsSome, IsNone, is_some, IfSome, IfOk, IsOkAnd, MatchResult, refl, sym, ◌∙◌, ap, subst}
-use Rattle.std.specs.Result.{result_map_both}
+use Rattle.std.proofs.Common.{nat_eq, ◌≡◌, ℕ, ◌<◌, ◌⊎◌, inl, inr, false, List, length, Option, Some, None, Result, Ok, Err, IsSome, IsNone, is_some, IfSome, MatchResult, refl, sym, ◌∙◌, ap, subst}
 use Rattle.task_syntax.specs.Columns.{no_columns}
 use Rattle.task_syntax.specs.declared.program.Program.{Program}
-use Rattle.task_reader.specs.Read.{program_in}
 use Rattle.plain_engine.specs.RunEnd.{RunEnd}
 use Rattle.ktask_cli.specs.declared.choice.Command.{Command}
-use Rattle.ktask_cli.specs.declared.choice.Command.TheVariants.{Run, Check}
+use Rattle.ktask_cli.specs.declared.choice.Command.TheVariants.{Run, Check, Print}
 use Rattle.ktask_cli.specs.declared.fetch_error.FetchError.{FetchError}
 use Rattle.ktask_cli.specs.declared.fetch_error.FetchError.TheVariants.{Failed, TooLong, Memory}
 use Rattle.ktask_cli.specs.declared.stop.Stop.{Stop}
 use Rattle.ktask_cli.specs.declared.stop.Stop.TheVariants as stop
 use Rattle.ktask_cli.specs.Count.{Rose}
 use Rattle.ktask_cli.specs.Fetch.{FailedOnlyByFault}
-use Rattle.ktask_cli.specs.Outcome.{Answer, Takes, TakesFront, Writes, Runs, Prints, Stops, Reaches, Does}
+use Rattle.ktask_cli.specs.Outcome.{Answer, Writes, Runs, Prints, Stops, Reaches, Does}
 use Rattle.ktask_cli.specs.Plan.{Plan}
-use Rattle.ktask_cli.specs.Ready.{valid_under, sizes_under}
-use Rattle.ktask_cli.specs.Refusal.{Tells, TellsOrWants, Told}
+use Rattle.ktask_cli.specs.Ready.{valid_under, sizes_under, text_under}
+use Rattle.ktask_cli.specs.Refusal.{TellsOrWants, Told}
 use Rattle.ktask_cli.specs.Report.{report_of, status_of_ends}
 use Rattle.ktask_cli.specs.Seen.{ShelfSeen, SinkSeen, Fetches}
-use Rattle.ktask_cli.specs.Statuses.{Suits, SuitsText, IsFetched, IsRefused, IsOrWants, TwoForWords, FiveForText, SevenForFetch, EightForOut, ZeroForPrinted, RunForSuited, QuietWhereRefused, SilentWhereDone, IsRun, RunsAtStatus, IsStatusOf, EndsByStatus, StatusHasCause}
-use Rattle.ktask_cli.specs.Stop.{status_of, fetch_stop, longest_file}
-use Rattle.ktask_cli.proofs.Causes.{Took, Cause, wants, unfetched, unsuited, run_took, run_stopped, check_took, check_stopped}
+use Rattle.ktask_cli.specs.Statuses.{Suits, SuitsText, IsFetched, IsRefused, IsOrWants, TwoForWords, FiveForText, SevenForFetch, EightForOut, ZeroForPrinted, RunForSuited, QuietWhereRefused, SilentWhereDone, RunsAtStatus, IsStatusOf, EndsByStatus, StatusHasCause}
+use Rattle.ktask_cli.specs.Stop.{status_of, longest_file}
+use Rattle.ktask_cli.proofs.Causes.{Took, Cause, wants, unfetched, unsuited, run_took, run_stopped, check_took, check_stopped, print_took, print_stopped}
 use Rattle.ktask_cli.proofs.Ends.{Shows, all_numbers, none_cut, limited, run_shows}
 
 -- ---- what can come of a command
@@ -91,12 +89,16 @@ came_printed command plain plan name was is a took cause r = by r.reached r.foll
   by (Ok text) follows h = offered text h (took text follows) h.offered
   by (Err s) follows h = stopped command name was is a s (cause s follows) (quiet_stop s name a h) (status_stop s name a h)
 
-is_no_run : ¬ (Check ≡ Run)
-is_no_run e = cc
+check_is_no_run : ¬ (Check ≡ Run)
+check_is_no_run e = cc
+
+print_is_no_run : ¬ (Print ≡ Run)
+print_is_no_run e = cc
 
 came : (command : Command) (name : List ℕ) (was is : ShelfSeen) (a : Answer) → Does (Some (command, name)) was is a → Came command name was is a
 came Run name was is a r = came_run name was is a r
-came Check name was is a r = came_printed Check is_no_run (sizes_under name) name was is a (check_took name was is) (check_stopped name was is) r
+came Check name was is a r = came_printed Check check_is_no_run (sizes_under name) name was is a (check_took name was is) (check_stopped name was is) r
+came Print name was is a r = came_printed Print print_is_no_run (text_under name) name was is a (print_took name was is) (print_stopped name was is) r
 
 -- ---- the causes of each status
 

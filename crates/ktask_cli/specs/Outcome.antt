@@ -6,12 +6,12 @@ use Rattle.task_syntax.specs.declared.program.Program.{Program}
 use Rattle.plain_engine.specs.RunEnd.{RunEnd}
 use Rattle.plain_engine.specs.SoundEnd.{IsSoundEnd}
 use Rattle.ktask_cli.specs.declared.choice.Command.{Command}
-use Rattle.ktask_cli.specs.declared.choice.Command.TheVariants.{Run, Check}
+use Rattle.ktask_cli.specs.declared.choice.Command.TheVariants.{Run, Check, Print}
 use Rattle.ktask_cli.specs.declared.stop.Stop.{Stop}
 use Rattle.ktask_cli.specs.declared.stop.Stop.TheVariants.{WordsRefused, WriteFault}
 use Rattle.ktask_cli.specs.Count.{Rose}
 use Rattle.ktask_cli.specs.Plan.{Plan}
-use Rattle.ktask_cli.specs.Ready.{valid_under, sizes_under}
+use Rattle.ktask_cli.specs.Ready.{valid_under, sizes_under, text_under}
 use Rattle.ktask_cli.specs.Refusal.{Tells, Told}
 use Rattle.ktask_cli.specs.Report.{report_of, status_of_ends}
 use Rattle.ktask_cli.specs.Seen.{ShelfSeen, SinkSeen}
@@ -81,3 +81,4 @@ abbrev pub Does : Option (Command × List ℕ) → ShelfSeen → ShelfSeen → A
 Does None was is a = (is ≡ was) × Stops WordsRefused [] a
 Does (Some (Run, name)) was is a = Reaches (valid_under name) Runs name was is a
 Does (Some (Check, name)) was is a = Reaches (sizes_under name) Prints name was is a
+Does (Some (Print, name)) was is a = Reaches (text_under name) Prints name was is a

@@ -5,6 +5,7 @@ use Rattle.task_syntax.specs.declared.program.Program.{Program}
 use Rattle.task_text.specs.Fault.{number_of}
 use Rattle.task_text.specs.declared.fault.Fault.{Fault}
 use Rattle.task_reader.specs.Read.{program_in}
+use Rattle.task_writer.specs.Text.{text_of}
 use Rattle.task_check.specs.Faults.{TellsFirst}
 use Rattle.task_check.specs.declared.fault.CheckError.TheVariants as check_error
 use Rattle.ktask_cli.specs.declared.stop.InputFile.TheVariants as file
@@ -47,3 +48,9 @@ abbrev pub sizes_under : List ℕ → Plan (List ℕ)
 sizes_under name = do
   program ← valid_under name
   judged (λ result. result ≡ Ok (sizes_line program))
+
+-- what `print` prints, of a program that need not be valid
+abbrev pub text_under : List ℕ → Plan (List ℕ)
+text_under name = do
+  program ← program_under name
+  judged (λ result. result ≡ Ok (text_of program))

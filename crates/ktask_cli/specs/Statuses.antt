@@ -4,14 +4,14 @@ use Rattle.std.specs.List.{list_any}
 use Rattle.task_syntax.specs.Places.{Each}
 use Rattle.task_syntax.specs.Valid.{IsValid}
 use Rattle.task_syntax.specs.declared.program.Program.{Program}
-use Rattle.task_syntax.specs.declared.value.Value.TheVariants.{Number, Trapped}
+use Rattle.task_syntax.specs.declared.value.Value.TheVariants.{Number}
 use Rattle.task_reader.specs.Read.{program_in}
 use Rattle.plain_engine.specs.RunEnd.{RunEnd}
 use Rattle.plain_engine.specs.SoundEnd.{most_activations}
 use Rattle.plain_engine.specs.declared.end.RootEnd.{RootEnd}
 use Rattle.plain_engine.specs.declared.end.RootEnd.TheVariants.{Value, Cut}
 use Rattle.ktask_cli.specs.declared.choice.Command.{Command}
-use Rattle.ktask_cli.specs.declared.choice.Command.TheVariants.{Run, Check}
+use Rattle.ktask_cli.specs.declared.choice.Command.TheVariants.{Run, Check, Print}
 use Rattle.ktask_cli.specs.declared.fetch_error.FetchError.TheVariants.{Failed, TooLong}
 use Rattle.ktask_cli.specs.Count.{Rose}
 use Rattle.ktask_cli.specs.Outcome.{Answer}
@@ -19,10 +19,11 @@ use Rattle.ktask_cli.specs.Report.{status_of_ends, is_trap, is_limit}
 use Rattle.ktask_cli.specs.Seen.{ShelfSeen}
 use Rattle.ktask_cli.specs.Stop.{longest_file}
 
--- the command takes a program: a run and `check` take a valid one
+-- the command takes a program: a run and `check` take a valid one, `print` each
 abbrev pub Suits : Command → Program → Type 0
 Suits Run program = IsValid program
 Suits Check program = IsValid program
+Suits Print program = Unit {0}
 
 -- the text is a program that the command takes
 abbrev pub SuitsText : Command → List ℕ → Type 0

@@ -6,6 +6,7 @@ ghost use Rattle.ktask_cli.specs.Choice.{choice_of, command_of};
 pub enum Command {
     Run,
     Check,
+    Print,
 }
 
 /// What the words ask for: a command, and the name of the program's file.
@@ -21,6 +22,7 @@ fn command_of(word: &str) -> Option<Command>
     match word {
         "run" => Some(Command::Run),
         "check" => Some(Command::Check),
+        "print" => Some(Command::Print),
         _ => None,
     }
 }

@@ -235,6 +235,7 @@ fn words_are_a_command_and_one_more(rt: HostRuntime) -> Result<(), Fail> {
     let rows = [
         (["run", "a"].as_slice(), Some((Command::Run, "a"))),
         (["check", "b"].as_slice(), Some((Command::Check, "b"))),
+        (["print", "c"].as_slice(), Some((Command::Print, "c"))),
         (["run"].as_slice(), None),
         (["check", "a", "a"].as_slice(), None),
         (["walk", "a"].as_slice(), None),

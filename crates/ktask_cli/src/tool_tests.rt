@@ -47,6 +47,15 @@ const LARGE: &str = "ktask 1\nkind big\n\
     var v0 v1 v2 v3 v4 v5 v6 v7 v8 v9 v10 v11 v12 v13 v14 v15 v16 v17 v18 v19 v20 v21 v22 v23 v24 v25 v26 v27 v28 v29 v30 v31\n\
     var v32 v33 v34 v35 v36 v37 v38 v39 v40 v41 v42 v43 v44 v45 v46 v47 v48 v49 v50 v51 v52 v53 v54 v55 v56 v57 v58 v59 v60 v61 v62 v63\nstate s\n  done 0\nend\n";
 
+// Not valid, which `print` does not ask.
+const SPACED: &str =
+    "# a comment\n\nktask\t1\r\nroot p one regular # last\nkind one\n  state start\n  done 007\n\
+    end\nkind bad\nvar @a\nvar x\nstate s\n  get x @a\n  done x\nend\n";
+
+const CANONICAL: &str =
+    "ktask 1\nkind one\nstate start\ndone 7\nend\nkind bad\nvar @a x\nstate s\nget x @a\n\
+    done x\nend\nroot p one\n";
+
 const TWO_ROOTS: &str = "ktask 1\nkind one\nstate start\n  done 1\nend\nroot r one\nroot s one\n";
 
 // The status, and what `out` and `err` took.
@@ -108,6 +117,7 @@ fn programs_are_run_checked_or_refused(rt: HostRuntime) -> Result<(), Fail> {
     let state_needs = "ktask: program line 10 check 4 StateNeeds @a\n";
     let bad_count = "ktask: program line 6 check 3 BadCount one\n";
     let not_held = "ktask: program line 5 check 1 NotHeld @a\n";
+    let not_held_below = "ktask: program line 9 check 1 NotHeld @a\n";
     let root_needs = "ktask: program line 13 check 4 StateNeeds @p\n";
     let too_large = "ktask: program line 2 check 5 FrameTooLarge big\n";
     let rows = [
@@ -130,6 +140,10 @@ fn programs_are_run_checked_or_refused(rt: HostRuntime) -> Result<(), Fail> {
         ("check", ROOTS, 0, "kinds 2 roots 2\n", ""),
         ("check", "ktask 1\n", 0, "kinds 0 roots 0\n", ""),
         ("check", "", 5, "", no_header),
+        ("print", SPACED, 0, CANONICAL, ""),
+        ("print", CANONICAL, 0, CANONICAL, ""),
+        ("check", CANONICAL, 5, "", not_held_below),
+        ("print", "", 5, "", no_header),
         ("check", EARLY_GET, 5, "", not_settled),
         ("check", EARLY_STATE, 5, "", state_needs),
         ("check", TOO_MANY, 5, "", bad_count),
@@ -225,6 +239,13 @@ fn words_files_and_sinks_are_refused(rt: HostRuntime) -> Result<(), Fail> {
             0,
         ),
         (["check"].as_slice(), [].as_slice(), 2, words, 0),
+        (
+            ["print", "p"].as_slice(),
+            [1].as_slice(),
+            8,
+            "ktask: write fault\n",
+            0,
+        ),
         (
             ["check", "x.kt"].as_slice(),
             [].as_slice(),

@@ -1,4 +1,4 @@
-use Rattle.std.proofs.Common.{rules, append_assoc, ◌≡◌, ◌∙◌, ap, refl}
+use Rattle.std.proofs.Common.{rules, append_assoc, ◌∙◌, ap, refl}
 use Rattle.ktask_cli.specs.Stop.{status_of}
 use Rattle.ktask_cli.proofs.Told.{made_told, told}
 use Rattle.ktask_cli.proofs.refuse.refuse.Goals as goal
