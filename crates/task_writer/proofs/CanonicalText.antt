@@ -39,11 +39,11 @@ joined [] = refl
 joined (word ∷ []) = append-nil word
 joined (word ∷ next ∷ words) = ap (λ z. word ++ 32 ∷ z) (joined (next ∷ words))
 
-line-parted : (words : List Word) → line_text words ≡ join_with_byte 32 words ++ 10 ∷ []
+pub line-parted : (words : List Word) → line_text words ≡ join_with_byte 32 words ++ 10 ∷ []
 unfolding line_text
 line-parted words = ap (λ z. z ++ 10 ∷ []) (joined words)
 
-abbrev written : List Word → List ℕ
+abbrev pub written : List Word → List ℕ
 written words = join_with_byte 32 words ++ 10 ∷ []
 
 lines-parted : (ws : List What) → text_of_lines ws ≡ flat_map written (map line_words ws)
@@ -52,7 +52,7 @@ lines-parted [] = refl
 lines-parted (w ∷ ws) =
     ap (λ z. z ++ text_of_lines ws) (line-parted (line_words w)) ∙ ap (λ z. written (line_words w) ++ z) (lines-parted ws)
 
-text-parted : (p : Program) → text_of p ≡ flat_map written (header_words ∷ map line_words (lines_of_program p))
+pub text-parted : (p : Program) → text_of p ≡ flat_map written (header_words ∷ map line_words (lines_of_program p))
 unfolding text_of
 text-parted p =
     ap (λ z. z ++ text_of_lines (lines_of_program p)) (line-parted header_words) ∙ ap (λ z. written header_words ++ z) (lines-parted (lines_of_program p))
@@ -76,11 +76,11 @@ header-tidy = (fixed-tidy (codes "ktask") refl, (one-tidy, tt))
 
 -- ---- the first words of lines
 
-apart : (a b : Word) → same_bytes a b ≡ false → a ≢ b
+pub apart : (a b : Word) → same_bytes a b ≡ false → a ≢ b
 apart a b h e = let c : true ≡ false = sym (same-bytes a) ∙ (ap (same_bytes a) e ∙ h) in cc
 
 -- a word that is neither `var` nor `root`
-abbrev IsNeither : Word → Type 0
+abbrev pub IsNeither : Word → Type 0
 IsNeither word = (word ≢ codes "var") × (word ≢ codes "root")
 
 neither : (word : Word) → same_bytes word (codes "var") ≡ false → same_bytes word (codes "root") ≡ false → IsNeither word
@@ -93,10 +93,10 @@ operation-open op.Mul = neither (codes "mul") refl refl
 operation-open op.Div = neither (codes "div") refl refl
 operation-open op.Rem = neither (codes "rem") refl refl
 
-abbrev IsInner : What → Type 0
+abbrev pub IsInner : What → Type 0
 IsInner w = IsNeither (first_of (line_words w))
 
-step-inner : (s : Step) → IsInner (what.Step s)
+pub step-inner : (s : Step) → IsInner (what.Step s)
 step-inner (Math operation to left right) = operation-open operation
 step-inner (Set to value) = neither (codes "set") refl refl
 step-inner (If relation left right target) = neither (codes "if") refl refl
@@ -112,10 +112,10 @@ step-inner (Get to future) = neither (codes "get") refl refl
 step-inner (Again target behind priority) = neither (codes "again") refl refl
 step-inner (Done value) = neither (codes "done") refl refl
 
-abbrev VarBehindKind : List Word → List Word → Type 0
+abbrev pub VarBehindKind : List Word → List Word → Type 0
 VarBehindKind line next = Opens (codes "var") next → Opens (codes "kind") line
 
-abbrev RootBehindRoot : List Word → List Word → Type 0
+abbrev pub RootBehindRoot : List Word → List Word → Type 0
 RootBehindRoot line next = Opens (codes "root") line → Opens (codes "root") next
 
 -- the lines are in order behind a line that opens no root

@@ -21,6 +21,10 @@ pub mod SameProgram
 pub mod Skipped
 pub mod StandingCode
 pub mod StandingKinds
+pub mod UniqueLines
+pub mod UniqueSteps
+pub mod UniqueText
+pub mod UniqueWords
 pub mod Writable
 pub mod WritableSteps
 pub mod WriteLaws

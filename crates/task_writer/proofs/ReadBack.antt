@@ -62,7 +62,7 @@ all-solid : (words : List Word) → AllTidy words → AreSolid words
 all-solid [] h = tt
 all-solid (word ∷ words) h = (tidy-solid word h.0, all-solid words h.1)
 
-is-row : (words : List Word) → (words ≡ [] → ⊥) → AllTidy words → IsRow words
+pub is-row : (words : List Word) → (words ≡ [] → ⊥) → AllTidy words → IsRow words
 is-row [] n h = absurd (n refl)
 is-row (word ∷ words) n h = all-solid (word ∷ words) h
 

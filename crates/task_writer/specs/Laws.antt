@@ -1,5 +1,5 @@
--- What holds of the canonical text of every well-formed program.
-use Rattle.std.specs.Prelude.{◌≡◌, Ok}
+-- What holds of canonical texts and their programs.
+use Rattle.std.specs.Prelude.{◌≡◌, ℕ, List, Ok}
 use Rattle.task_syntax.specs.Form.{IsWellFormed}
 use Rattle.task_syntax.specs.declared.program.Program.{Program}
 use Rattle.task_reader.specs.Read.{program_in}
@@ -20,9 +20,9 @@ KeepsTheRest = (p : Program) → AreSameButLines (renumbered p) p
 abbrev pub PrintsTheSame : Type 0
 PrintsTheSame = (p : Program) → text_of (renumbered p) ≡ text_of p
 
--- what is read from the text of a program is printed as that text
+-- what is read from a canonical text is printed as that very text: a program has one canonical text
 abbrev pub PrintsWhatItRead : Type 0
-PrintsWhatItRead = (p q : Program) → IsWellFormed p → program_in (text_of p) ≡ Ok q → text_of q ≡ text_of p
+PrintsWhatItRead = (text : List ℕ) (p : Program) → IsCanonical text → program_in text ≡ Ok p → text_of p ≡ text
 
 -- no blank is doubled, nothing is written that need not be, and all stands in its order
 abbrev pub PrintsCanonically : Type 0

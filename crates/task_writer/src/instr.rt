@@ -1,6 +1,6 @@
 ghost use Rattle.std.specs.Prelude.{◌≡◌, ◌++◌, ◌∷◌, [], codes, map, option_map, OnOk};
 ghost use Rattle.task_lines.specs.Grammar.{future_word, operation_word, relation_word, behind_words, retry_words};
-ghost use Rattle.task_writer.specs.Lines.{name_at, kind_names, variable_names, state_names, label_names, names_in, term_of, passed_of, step_of};
+ghost use Rattle.task_writer.specs.Lines.{name_at, kind_names, variable_names, names_in, term_of, passed_of, step_of};
 ghost use Rattle.task_writer.specs.Words.{term_word, passed_word, priority_words, step_words};
 ghost use Rattle.task_writer.specs.Text.{spaced, parted, line_text};
 

@@ -20,7 +20,7 @@ pub fn prints_canonically()
     ensures { PrintsCanonically }
 {}
 
-/// The law that what is read from a written text is written as that text. It does nothing when it runs.
+/// The law that what is read from a canonical text is written as that very text. It does nothing when it runs.
 pub fn prints_what_it_read()
     ensures { PrintsWhatItRead }
 {}

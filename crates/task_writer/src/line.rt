@@ -1,8 +1,7 @@
-ghost use Rattle.std.specs.Prelude.{◌≡◌, ◌≤◌, ◌++◌, ◌∷◌, [], codes, map, option_map, take, drop, length, OnOk};
-ghost use Rattle.task_lines.specs.Grammar.{behind_words};
-ghost use Rattle.task_writer.specs.Lines.{name_at, kind_names, variable_names, root_names, root_term_of, names_in, code_lines, state_lines, var_lines, kind_lines, root_line, HaveArguments};
+ghost use Rattle.std.specs.Prelude.{◌≡◌, ◌≤◌, ◌++◌, ◌∷◌, [], codes, map, length, OnOk};
+ghost use Rattle.task_writer.specs.Lines.{name_at, kind_names, variable_names, root_names, names_in, code_lines, state_lines, var_lines, kind_lines, root_line, HaveArguments};
 ghost use Rattle.std.specs.List.{flat_map};
-ghost use Rattle.task_writer.specs.Words.{variable_word, root_term_word, futures_words, priority_words, line_words};
+ghost use Rattle.task_writer.specs.Words.{variable_word, futures_words, line_words};
 ghost use Rattle.task_writer.specs.Text.{line_text, text_of_lines};
 
 use crate::instr::put_step;

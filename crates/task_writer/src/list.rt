@@ -1,4 +1,4 @@
-ghost use Rattle.std.specs.Prelude.{◌≡◌, ◌++◌, ◌∷◌, [], map, OnOk};
+ghost use Rattle.std.specs.Prelude.{◌≡◌, ◌++◌, map, OnOk};
 ghost use Rattle.task_lines.specs.Grammar.{future_word};
 ghost use Rattle.task_writer.specs.Lines.{name_at, variable_names, root_names, passed_of, root_term_of};
 ghost use Rattle.task_writer.specs.Words.{passed_word, root_term_word, variable_word, futures_words};

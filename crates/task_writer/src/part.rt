@@ -1,7 +1,7 @@
-ghost use Rattle.std.specs.Prelude.{◌≡◌, ◌++◌, ◌∷◌, [], map, option_map, OnOk};
-ghost use Rattle.task_lines.specs.Grammar.{behind_words, retry_words, future_word};
+ghost use Rattle.std.specs.Prelude.{◌≡◌, ◌++◌, ◌∷◌, [], option_map, OnOk};
+ghost use Rattle.task_lines.specs.Grammar.{behind_words, retry_words};
 ghost use Rattle.task_writer.specs.Lines.{name_at, variable_names, root_names, term_of, passed_of, root_term_of};
-ghost use Rattle.task_writer.specs.Words.{term_word, passed_word, root_term_word, variable_word, futures_words, priority_words};
+ghost use Rattle.task_writer.specs.Words.{term_word, passed_word, root_term_word, variable_word, priority_words};
 ghost use Rattle.task_writer.specs.Text.{spaced};
 
 use crate::name::{root_name, variable_name};

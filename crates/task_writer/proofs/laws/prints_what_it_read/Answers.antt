@@ -1,4 +1,4 @@
-use Rattle.task_writer.proofs.WriteLaws.{prints_what_it_read}
+use Rattle.task_writer.proofs.UniqueText.{prints_what_it_read}
 use Rattle.task_writer.proofs.laws.prints_what_it_read.Goals as goal
 
 pub returns : goal.returns

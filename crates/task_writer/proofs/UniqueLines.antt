@@ -1,0 +1,391 @@
+-- The lines of the program that items stand for are the lines of the items.
+use Rattle.std.proofs.Common.{◌≡◌, ◌≢◌, ℕ, suc, ◌+◌, true, Option, option_map, unwrap_or, List, [], ◌∷◌, ◌++◌, map, length, take, drop, slice_get, Ok, refl, sym, ◌∙◌, ap, subst, arith, append_assoc, append-nil}
+use Rattle.std.specs.List.{flat_map}
+use Rattle.std.proofs.Math.Seq.{take-append_seam, drop-append_seam}
+use Rattle.task_syntax.specs.Names.{same_bytes}
+use Rattle.task_syntax.specs.declared.program.Sort.TheVariants as sort
+use Rattle.task_syntax.specs.declared.program.Variable.{Variable}
+use Rattle.task_syntax.specs.declared.program.State.{State}
+use Rattle.task_syntax.specs.declared.program.Kind.{Kind}
+use Rattle.task_syntax.specs.declared.value.Priority.{Priority}
+use Rattle.task_syntax.specs.declared.instr.Line.{Line}
+use Rattle.task_syntax.proofs.Differ.{get-front}
+use Rattle.task_text.specs.Fault.{◌>>◌}
+use Rattle.task_text.specs.Scan.{is_among}
+use Rattle.task_lines.specs.declared.step.Step.{Step}
+use Rattle.task_lines.specs.declared.step.Step.TheVariants.{Goto, Label, Again, Done}
+use Rattle.task_lines.specs.declared.item.RootTerm.{RootTerm}
+use Rattle.task_lines.specs.declared.item.RootTerm.TheVariants as root_term
+use Rattle.task_lines.specs.declared.item.What.{What}
+use Rattle.task_lines.specs.declared.item.What.TheVariants as what
+use Rattle.task_lines.specs.declared.item.Item.{Item}
+use Rattle.task_lines.specs.declared.scope.Place.{Place}
+use Rattle.task_lines.specs.declared.scope.Place.TheVariants.{Outside, Head, Code, Ended}
+use Rattle.task_lines.specs.declared.scope.Scope.{Scope}
+use Rattle.task_lines.specs.Scope.{first_scope, after, place_behind, has_variable}
+use Rattle.task_lines.specs.Grammar.{IsInState, MayBegin, MayFollow}
+use Rattle.task_reader.specs.declared.positions.Positions.{Positions}
+use Rattle.task_reader.specs.Names.{words_of_list, known, future_known, root_known, root_term_known, each_known, behind_known, known_at, step_known, line_known, names_known, label_names}
+use Rattle.task_reader.specs.Names as reader
+use Rattle.task_reader.specs.Program.{place_of, future_place, instr_of, steps_to, code_from, state_of, states_from, variables_from, kind_of, kinds_from, root_argument_of, root_of, roots_from, program_of}
+use Rattle.task_reader.proofs.Known.{both-known, known-true}
+use Rattle.task_reader.proofs.FormedSteps.{known_for}
+use Rattle.task_reader.proofs.FormedCode.{known-is}
+use Rattle.task_reader.proofs.Places.{place-where, same-name}
+use Rattle.task_reader.proofs.Stands.{Stand, item_at, names-of-kinds, names-of-roots, names-of-states}
+use Rattle.task_reader.proofs.Stands as stands
+use Rattle.task_writer.specs.Lines.{Names, name_at, kind_names, variable_names, state_names, root_names, label_of, names_in, step_of, code_lines, state_lines, var_lines, kind_lines, root_term_of, root_line, lines_of_program}
+use Rattle.task_writer.specs.Lines as lines
+use Rattle.task_writer.proofs.Named.{name-found}
+use Rattle.task_writer.proofs.UniqueSteps.{place-same, HasNames, each-same, behind-same, futures-same, names_for, step-same, labels-stand}
+
+abbrev pub whats : List Item → List What
+whats items = map (λ (i : Item). i.what) items
+
+-- ---- the order of lines
+
+abbrev pub IsRoot : What → Type 0
+IsRoot (what.Root name kind arguments behind priority) = Unit {0}
+IsRoot _ = ⊥
+
+abbrev pub IsNoVar : What → Type 0
+IsNoVar (what.Var variables) = ⊥
+IsNoVar _ = Unit {0}
+
+abbrev pub First : (What → Type 0) → List Item → Type 0
+First P [] = Unit {0}
+First P (item ∷ items) = P item.what
+
+-- behind a root a root follows, and behind a `var` line none
+abbrev pub MayPrecede : What → List Item → Type 0
+MayPrecede (what.Root name kind arguments behind priority) items = First IsRoot items
+MayPrecede (what.Var variables) items = First IsNoVar items
+MayPrecede _ items = Unit {0}
+
+abbrev pub IsOrdered : List Item → Type 0
+IsOrdered [] = Unit {0}
+IsOrdered (item ∷ items) = MayPrecede item.what items × IsOrdered items
+
+no-kinds-step : (kinds : List (List ℕ)) (line : ℕ) (w : What) (items : List Item) → IsRoot w → kinds_from kinds items ≡ [] → kinds_from kinds (item_at line w ∷ items) ≡ []
+unfolding kinds_from
+no-kinds-step kinds line (what.Root name kind arguments behind priority) items is e = e
+no-kinds-step kinds line _ items is e = absurd is
+
+-- no kind stands behind roots
+no-kinds : (kinds : List (List ℕ)) (items : List Item) → First IsRoot items → IsOrdered items → kinds_from kinds items ≡ []
+unfolding kinds_from
+no-kinds kinds [] first ordered = refl
+no-kinds kinds (item ∷ items) first ordered = no-kinds-step kinds item.line item.what items first (no-kinds kinds items (further item.what first ordered.0) ordered.1) where
+  further : (w : What) → IsRoot w → MayPrecede w items → First IsRoot items
+  further (what.Root name kind arguments behind priority) is may = may
+  further _ is may = absurd is
+
+no-variables : (items : List Item) → First IsNoVar items → variables_from items ≡ []
+no-variables [] first = refl
+no-variables (item ∷ items) first = by item.what refl first where
+  by : (w : What) → item.what ≡ w → IsNoVar w → variables_from (item ∷ items) ≡ []
+  by (what.Var variables) e is = absurd is
+  by _ e is = rw e refl
+
+-- ---- what the lines of the items are
+
+-- the lines behind those of a kind
+abbrev pub later : List (List ℕ) → List (List ℕ) → List (List ℕ) → List Item → List What
+later kinds roots earlier items = flat_map (kind_lines kinds) (kinds_from kinds items) ++ map (root_line kinds roots) (roots_from kinds earlier items)
+
+-- what is given at some of the items: they may stand, their names are known, and they are in order
+record IsGiven (all : List Item) (roots : List (List ℕ)) (s : Scope) (items : List Item) : Type 0 where
+  stand : Stand s items
+  known : names_known all s items ≡ Ok tt
+  ordered : IsOrdered items
+  roots_are : s.roots ++ stands.root_names items ≡ roots
+
+abbrev InStates : List (List ℕ) → List (List ℕ) → Positions → Kind → Scope → List Item → List What
+InStates kinds roots positions kind s items = flat_map (state_lines kinds kind) (states_from positions items) ++ (what.End ∷ later kinds roots s.roots items)
+
+record Claims (all : List Item) (kinds roots : List (List ℕ)) (items : List Item) : Type 0 where
+  outside : (s : Scope) → s.place ≡ Outside → IsGiven all roots s items → whats items ≡ later kinds roots s.roots items
+  begin : (s : Scope) (positions : Positions) (kind : Kind) → HasNames positions kinds kind → s.place ≡ Head → IsGiven all roots s items → First IsNoVar items
+      → s.variables ≡ positions.variables → s.states ++ reader.state_names items ≡ positions.states → whats items ≡ InStates kinds roots positions kind s items
+  head : (s : Scope) (positions : Positions) (kind : Kind) → HasNames positions kinds kind → s.place ≡ Head → IsGiven all roots s items
+      → s.variables ++ variables_from items ≡ positions.variables → s.states ++ reader.state_names items ≡ positions.states
+      → whats items ≡ var_lines (variables_from items) ++ InStates kinds roots positions kind s items
+  code : (s : Scope) (positions : Positions) (kind : Kind) → HasNames positions kinds kind → (state : State) (at : ℕ) → IsInState s.place → IsGiven all roots s items
+      → s.variables ≡ positions.variables → s.states ++ reader.state_names items ≡ positions.states
+      → ((j : ℕ) → slice_get state.code (at + j) ≡ slice_get (code_from positions at items) j)
+      → whats items ≡ code_lines (names_in kinds kind state) (code_from positions at items) ++ InStates kinds roots positions kind s items
+
+no-state : (place : Place) → IsInState place → place ≡ Outside → ⊥
+no-state place is e = subst IsInState e is
+
+no-head : (place : Place) → IsInState place → place ≡ Head → ⊥
+no-head place is e = subst IsInState e is
+
+in-state : (step : Step) → IsInState (place_behind step)
+in-state (Goto target) = tt
+in-state (Again target behind priority) = tt
+in-state (Done value) = tt
+in-state _ = tt
+
+no-step : (place : Place) (step : Step) → place ≡ Head → MayFollow place step → ⊥
+no-step place (Label name) e may = subst IsInState e may
+no-step place step e may = let f : Code ≡ Head = sym may ∙ e in cc
+
+-- ---- instructions
+
+names-same : (positions : Positions) (kinds : List (List ℕ)) (kind : Kind) (labels : List (List ℕ)) → HasNames positions kinds kind
+    → names_for positions labels ≡ record { kinds = kinds; variables = variable_names kind.variables; states = state_names kind.states; labels = labels }
+names-same positions kinds kind labels has =
+    let k = has.kinds_are in let v = has.variables_are in let s = has.states_are in rw (k, v, s) refl
+
+code-of-step : (all : List Item) (kinds roots : List (List ℕ)) → reader.kind_names all ≡ kinds → (line : ℕ) (step : Step) (items : List Item) → Claims all kinds roots items
+    → (s : Scope) (positions : Positions) (kind : Kind) → HasNames positions kinds kind → (state : State) (at : ℕ) → IsGiven all roots s (item_at line (what.Step step) ∷ items)
+    → s.variables ≡ positions.variables → s.states ++ reader.state_names items ≡ positions.states
+    → ((j : ℕ) → slice_get state.code (at + j) ≡ slice_get (code_from positions at (item_at line (what.Step step) ∷ items)) j)
+    → whats (item_at line (what.Step step) ∷ items) ≡ code_lines (names_in kinds kind state) (code_from positions at (item_at line (what.Step step) ∷ items)) ++ InStates kinds roots positions kind s (item_at line (what.Step step) ∷ items)
+unfolding code_from states_from kinds_from roots_from names_known line_known
+code-of-step all kinds roots named line step items c s positions kind has state at given variables states code =
+    ap (λ ws. what.Step step ∷ ws) (c.code (after s (what.Step step)) positions kind has state (at + 1) (in-state step) behind variables states ahead)
+    ∙ ap (λ z. what.Step z ∷ (code_lines (names_in kinds kind state) (code_from positions (at + 1) items) ++ InStates kinds roots positions kind s items)) (sym same) where
+      parts : (step_known (known_at all s items) line step ≡ Ok tt) × (names_known all (after s (what.Step step)) items ≡ Ok tt)
+      parts = both-known (step_known (known_at all s items) line step) (names_known all (after s (what.Step step)) items) given.known
+
+      behind : IsGiven all roots (after s (what.Step step)) items
+      behind = record { stand = given.stand.2; known = parts.1; ordered = given.ordered.1; roots_are = given.roots_are }
+
+      here : step_known (known_for positions (label_names items) s.roots) line step ≡ Ok tt
+      here = subst (λ k. step_known k line step ≡ Ok tt) (known-is positions all s items (named ∙ sym has.kinds_are) variables states) parts.0
+
+      ahead : (j : ℕ) → slice_get state.code ((at + 1) + j) ≡ slice_get (code_from positions (at + 1) items) j
+      ahead j = let e : (at + 1) + j ≡ at + suc j = omega arith in ap (λ n. slice_get state.code n) e ∙ code (suc j)
+
+      label : (name : List ℕ) → is_among (label_names items) name ≡ true → name_at (lines.label_names state.code) (at + 1 + steps_to name items) ≡ name
+      label name h = let r = labels-stand positions items (at + 1) name h in
+          name-found (λ (l : Line). label_of l.instr) state.code (at + 1 + steps_to name items) r.line (ahead (steps_to name items) ∙ r.stands) ∙ r.called
+
+      same : step_of (names_in kinds kind state) (instr_of positions (λ name. at + 1 + steps_to name items) step) ≡ step
+      same = ap (λ (n : Names). step_of n (instr_of positions (λ name. at + 1 + steps_to name items) step)) (sym (names-same positions kinds kind (lines.label_names state.code) has))
+          ∙ step-same positions (label_names items) s.roots (lines.label_names state.code) (λ name. at + 1 + steps_to name items) label line step here
+
+-- ---- states
+
+state-of-line : (all : List Item) (kinds roots : List (List ℕ)) → reader.kind_names all ≡ kinds → (line : ℕ) (name : List ℕ) (holds settled : List (List ℕ)) (items : List Item) → Claims all kinds roots items
+    → (s : Scope) (positions : Positions) (kind : Kind) → HasNames positions kinds kind → IsGiven all roots s (item_at line (what.State name holds settled) ∷ items)
+    → s.variables ≡ positions.variables → s.states ++ (name ∷ reader.state_names items) ≡ positions.states
+    → whats (item_at line (what.State name holds settled) ∷ items) ≡ InStates kinds roots positions kind s (item_at line (what.State name holds settled) ∷ items)
+unfolding states_from kinds_from roots_from names_known line_known state_lines
+state-of-line all kinds roots named line name holds settled items c s positions kind has given variables states =
+    ap (λ ws. what.State name holds settled ∷ ws) (c.code behind positions kind has state 0 tt further variables (append_assoc s.states (name ∷ []) (reader.state_names items) ∙ states) code)
+    ∙ (ap (λ (hs : List (List ℕ)). what.State name hs settled ∷ body) (sym held_same)
+    ∙ (ap (λ (ss : List (List ℕ)). what.State name (map write (map (future_place positions.variables) holds)) ss ∷ body) (sym settled_same)
+    ∙ ap (λ ws. what.State name (map write (map (future_place positions.variables) holds)) (map write (map (future_place positions.variables) settled)) ∷ ws)
+    (sym (append_assoc (code_lines (names_in kinds kind state) (code_from positions 0 items)) (flat_map (state_lines kinds kind) (states_from positions items)) (what.End ∷ later kinds roots s.roots items))))) where
+      state : State
+      state = state_of positions line name holds settled items
+
+      behind : Scope
+      behind = after s (what.State name holds settled)
+
+      body : List What
+      body = code_lines (names_in kinds kind state) (code_from positions 0 items) ++ InStates kinds roots positions kind s items
+
+      write : ℕ → List ℕ
+      write = name_at (variable_names kind.variables)
+
+      parts : ((each_known (future_known (known_at all s items) line) 4 holds >> each_known (future_known (known_at all s items) line) (4 + words_of_list holds) settled) ≡ Ok tt) × (names_known all behind items ≡ Ok tt)
+      parts = both-known _ (names_known all behind items) given.known
+
+      lists : (each_known (future_known (known_at all s items) line) 4 holds ≡ Ok tt) × (each_known (future_known (known_at all s items) line) (4 + words_of_list holds) settled ≡ Ok tt)
+      lists = both-known _ _ parts.0
+
+      further : IsGiven all roots behind items
+      further = record { stand = given.stand.2; known = parts.1; ordered = given.ordered.1; roots_are = given.roots_are }
+
+      code : (j : ℕ) → slice_get state.code (0 + j) ≡ slice_get (code_from positions 0 items) j
+      code j = let z : 0 + j ≡ j = omega arith in ap (λ n. slice_get state.code n) z
+
+      futures : (word : ℕ) (names : List (List ℕ)) → each_known (future_known (known_at all s items) line) word names ≡ Ok tt → map write (map (future_place positions.variables) names) ≡ names
+      futures word names e =
+          ap (λ (vs : List Variable). map (name_at (variable_names vs)) (map (future_place positions.variables) names)) (sym has.variables_are)
+          ∙ futures-same positions [] [] line word names (subst (λ vs. each_known (λ w name. known line w (has_variable vs sort.Future name)) word names ≡ Ok tt) variables e)
+
+      held_same : map write (map (future_place positions.variables) holds) ≡ holds
+      held_same = futures 4 holds lists.0
+
+      settled_same : map write (map (future_place positions.variables) settled) ≡ settled
+      settled_same = futures (4 + words_of_list holds) settled lists.1
+
+code-step : (all : List Item) (kinds roots : List (List ℕ)) → reader.kind_names all ≡ kinds → (line : ℕ) (w : What) (items : List Item) → Claims all kinds roots items
+    → (s : Scope) (positions : Positions) (kind : Kind) → HasNames positions kinds kind → (state : State) (at : ℕ) → IsInState s.place → IsGiven all roots s (item_at line w ∷ items)
+    → s.variables ≡ positions.variables → s.states ++ reader.state_names (item_at line w ∷ items) ≡ positions.states
+    → ((j : ℕ) → slice_get state.code (at + j) ≡ slice_get (code_from positions at (item_at line w ∷ items)) j)
+    → whats (item_at line w ∷ items) ≡ code_lines (names_in kinds kind state) (code_from positions at (item_at line w ∷ items)) ++ InStates kinds roots positions kind s (item_at line w ∷ items)
+unfolding code_from states_from kinds_from roots_from names_known line_known
+code-step all kinds roots named line (what.Kind name arguments) items c s positions kind has state at is given variables states code = absurd (no-state s.place is given.stand.1.0)
+code-step all kinds roots named line (what.Var more) items c s positions kind has state at is given variables states code = absurd (no-head s.place is given.stand.1.0)
+code-step all kinds roots named line (what.State name holds settled) items c s positions kind has state at is given variables states code =
+    state-of-line all kinds roots named line name holds settled items c s positions kind has given variables states
+code-step all kinds roots named line (what.Step step) items c s positions kind has state at is given variables states code =
+    code-of-step all kinds roots named line step items c s positions kind has state at given variables states code
+code-step all kinds roots named line what.End items c s positions kind has state at is given variables states code =
+    ap (λ ws. what.End ∷ ws) (c.outside (after s what.End) refl (record { stand = given.stand.2; known = given.known; ordered = given.ordered.1; roots_are = given.roots_are }))
+code-step all kinds roots named line (what.Root name callee arguments behind priority) items c s positions kind has state at is given variables states code = absurd (no-state s.place is given.stand.1.0)
+
+begin-step : (all : List Item) (kinds roots : List (List ℕ)) → reader.kind_names all ≡ kinds → (line : ℕ) (w : What) (items : List Item) → Claims all kinds roots items
+    → (s : Scope) (positions : Positions) (kind : Kind) → HasNames positions kinds kind → s.place ≡ Head → IsGiven all roots s (item_at line w ∷ items) → IsNoVar w
+    → s.variables ≡ positions.variables → s.states ++ reader.state_names (item_at line w ∷ items) ≡ positions.states
+    → whats (item_at line w ∷ items) ≡ InStates kinds roots positions kind s (item_at line w ∷ items)
+begin-step all kinds roots named line (what.Kind name arguments) items c s positions kind has is given first variables states = let f : Outside ≡ Head = sym given.stand.1.0 ∙ is in cc
+begin-step all kinds roots named line (what.Var more) items c s positions kind has is given first variables states = absurd first
+begin-step all kinds roots named line (what.State name holds settled) items c s positions kind has is given first variables states =
+    state-of-line all kinds roots named line name holds settled items c s positions kind has given variables states
+begin-step all kinds roots named line (what.Step step) items c s positions kind has is given first variables states = absurd (no-step s.place step is given.stand.1.0)
+begin-step all kinds roots named line what.End items c s positions kind has is given first variables states = let f : Ended ≡ Head = sym given.stand.1 ∙ is in cc
+begin-step all kinds roots named line (what.Root name callee arguments behind priority) items c s positions kind has is given first variables states = let f : Outside ≡ Head = sym given.stand.1.0 ∙ is in cc
+
+-- ---- kinds
+
+one-var-line : (variables more : List Variable) → variables ≢ [] → more ≡ [] → var_lines (variables ++ more) ≡ what.Var variables ∷ []
+one-var-line [] more n e = absurd (n refl)
+one-var-line (v ∷ vs) more n e = ap (λ (z : List Variable). what.Var (v ∷ z) ∷ []) (ap (λ z. vs ++ z) e ∙ append-nil vs)
+
+head-step : (all : List Item) (kinds roots : List (List ℕ)) → reader.kind_names all ≡ kinds → (line : ℕ) (w : What) (items : List Item) → Claims all kinds roots items
+    → (s : Scope) (positions : Positions) (kind : Kind) → HasNames positions kinds kind → s.place ≡ Head → IsGiven all roots s (item_at line w ∷ items)
+    → s.variables ++ variables_from (item_at line w ∷ items) ≡ positions.variables → s.states ++ reader.state_names (item_at line w ∷ items) ≡ positions.states
+    → whats (item_at line w ∷ items) ≡ var_lines (variables_from (item_at line w ∷ items)) ++ InStates kinds roots positions kind s (item_at line w ∷ items)
+unfolding states_from kinds_from roots_from names_known line_known
+head-step all kinds roots named line (what.Var more) items c s positions kind has is given variables states =
+    let none = no-variables items given.ordered.0 in
+    let whole : s.variables ++ more ≡ positions.variables = ap (λ z. s.variables ++ z) (sym (append-nil more) ∙ ap (λ z. more ++ z) (sym none)) ∙ variables in
+    ap (λ ws. what.Var more ∷ ws)
+    (c.begin (after s (what.Var more)) positions kind has is (record { stand = given.stand.2; known = given.known; ordered = given.ordered.1; roots_are = given.roots_are }) given.ordered.0 whole states)
+    ∙ ap (λ vs. vs ++ InStates kinds roots positions kind s items) (sym (one-var-line more (variables_from items) given.stand.0.1.2 none))
+head-step all kinds roots named line w items c s positions kind has is given variables states =
+    begin-step all kinds roots named line w items c s positions kind has is given tt (sym (append-nil s.variables) ∙ variables) states
+
+kind-of-line : (all : List Item) (kinds roots : List (List ℕ)) (line : ℕ) (name : List ℕ) (arguments : List Variable) (items : List Item) → Claims all kinds roots items
+    → (s : Scope) → IsGiven all roots s (item_at line (what.Kind name arguments) ∷ items)
+    → whats (item_at line (what.Kind name arguments) ∷ items) ≡ later kinds roots s.roots (item_at line (what.Kind name arguments) ∷ items)
+unfolding kinds_from roots_from kind_of kind_lines names_known line_known
+kind-of-line all kinds roots line name arguments items c s given =
+    ap (λ ws. what.Kind name arguments ∷ ws) (c.head (after s (what.Kind name arguments)) positions kind has refl (record { stand = given.stand.2; known = given.known; ordered = given.ordered.1; roots_are = given.roots_are }) refl refl)
+    ∙ (ap (λ (vs : List Variable). what.Kind name vs ∷ (var_lines (variables_from items) ++ (states ++ (what.End ∷ (more ++ last))))) (sym (take-append_seam arguments (variables_from items)))
+    ∙ (ap (λ (vs : List Variable). head ∷ (var_lines vs ++ (states ++ (what.End ∷ (more ++ last))))) (sym (drop-append_seam arguments (variables_from items)))
+    ∙ ap (λ ws. head ∷ ws) (sym (append_assoc (locals ++ (states ++ what.End ∷ [])) more last ∙ (append_assoc locals (states ++ what.End ∷ []) (more ++ last) ∙ ap (λ ws. locals ++ ws) (append_assoc states (what.End ∷ []) (more ++ last))))))) where
+      positions : Positions
+      positions = record { kinds = kinds; variables = arguments ++ variables_from items; states = reader.state_names items }
+
+      kind : Kind
+      kind = kind_of kinds line name arguments items
+
+      has : HasNames positions kinds kind
+      has = record { kinds_are = refl; variables_are = refl; states_are = sym (names-of-states positions items) }
+
+      states : List What
+      states = flat_map (state_lines kinds kind) (states_from positions items)
+
+      locals : List What
+      locals = var_lines (drop (length arguments) (arguments ++ variables_from items))
+
+      head : What
+      head = what.Kind name (take (length arguments) (arguments ++ variables_from items))
+
+      more : List What
+      more = flat_map (kind_lines kinds) (kinds_from kinds items)
+
+      last : List What
+      last = map (root_line kinds roots) (roots_from kinds s.roots items)
+
+-- ---- roots
+
+earlier-same : (earlier more all : List (List ℕ)) (name : List ℕ) → earlier ++ more ≡ all → is_among earlier name ≡ true → name_at all (place_of earlier name) ≡ name
+earlier-same earlier more all name e h =
+    let r = place-where (same_bytes name) earlier h in
+    ap (λ o. unwrap_or o []) (ap (λ ns. slice_get ns (place_of earlier name)) (sym e) ∙ get-front earlier more (place_of earlier name) r.0 r.1) ∙ sym (same-name name r.0 r.2)
+
+root-same : (all : List Item) (kinds roots : List (List ℕ)) → reader.kind_names all ≡ kinds → (line : ℕ) (name callee : List ℕ) (arguments : List RootTerm) (behind : Option (List ℕ)) (priority : Priority) (items : List Item)
+    → (s : Scope) (more : List (List ℕ)) → s.roots ++ more ≡ roots → line_known (known_at all s items) line (what.Root name callee arguments behind priority) ≡ Ok tt
+    → root_line kinds roots (root_of kinds s.roots line name callee arguments behind priority) ≡ what.Root name callee arguments behind priority
+unfolding root_line root_of line_known
+root-same all kinds roots named line name callee arguments behind priority items s more e known_ =
+    rw (place-same kinds callee callee_known, arguments_same, behind_same) refl where
+      parts : ((known line 3 (is_among (reader.kind_names all) callee) >> each_known (root_term_known (known_at all s items) line) 4 arguments) ≡ Ok tt) × (behind_known (root_known (known_at all s items) line) (4 + length arguments) behind ≡ Ok tt)
+      parts = both-known _ _ known_
+
+      front : (known line 3 (is_among (reader.kind_names all) callee) ≡ Ok tt) × (each_known (root_term_known (known_at all s items) line) 4 arguments ≡ Ok tt)
+      front = both-known _ _ parts.0
+
+      callee_known : is_among kinds callee ≡ true
+      callee_known = ap (λ ns. is_among ns callee) (sym named) ∙ known-true line 3 (is_among (reader.kind_names all) callee) front.0
+
+      one : (word : ℕ) (name : List ℕ) → root_known (known_at all s items) line word name ≡ Ok tt → name_at roots (place_of s.roots name) ≡ name
+      one word name k = earlier-same s.roots more roots name e (known-true line word (is_among s.roots name) k)
+
+      term : (word : ℕ) (t : RootTerm) → root_term_known (known_at all s items) line word t ≡ Ok tt → root_term_of roots (root_argument_of s.roots t) ≡ t
+      term word (root_term.Number n) k = refl
+      term word (root_term.Root name) k = ap (λ n. root_term.Root n) (one word name k)
+
+      arguments_same : map (root_term_of roots) (map (root_argument_of s.roots) arguments) ≡ arguments
+      arguments_same = each-same (root_term_known (known_at all s items) line) (root_argument_of s.roots) (root_term_of roots) term 4 arguments front.1
+
+      behind_same : option_map (name_at roots) (option_map (place_of s.roots) behind) ≡ behind
+      behind_same = behind-same (root_known (known_at all s items) line) (place_of s.roots) (name_at roots) one (4 + length arguments) behind parts.1
+
+root-of-line : (all : List Item) (kinds roots : List (List ℕ)) → reader.kind_names all ≡ kinds → (line : ℕ) (name callee : List ℕ) (arguments : List RootTerm) (behind : Option (List ℕ)) (priority : Priority) (items : List Item)
+    → Claims all kinds roots items → (s : Scope) → s.place ≡ Outside → IsGiven all roots s (item_at line (what.Root name callee arguments behind priority) ∷ items)
+    → whats (item_at line (what.Root name callee arguments behind priority) ∷ items) ≡ later kinds roots s.roots (item_at line (what.Root name callee arguments behind priority) ∷ items)
+unfolding kinds_from roots_from names_known
+root-of-line all kinds roots named line name callee arguments behind priority items c s is given =
+    let w = what.Root name callee arguments behind priority in
+    let parts = both-known (line_known (known_at all s items) line w) (names_known all (after s w) items) given.known in
+    let none = no-kinds kinds items given.ordered.0 given.ordered.1 in
+    let last = map (root_line kinds roots) (roots_from kinds (s.roots ++ name ∷ []) items) in
+    let further : IsGiven all roots (after s w) items = record { stand = given.stand.2; known = parts.1; ordered = given.ordered.1; roots_are = append_assoc s.roots (name ∷ []) (stands.root_names items) ∙ given.roots_are } in
+    ap (λ ws. w ∷ ws) (c.outside (after s w) is further ∙ ap (λ (ks : List Kind). flat_map (kind_lines kinds) ks ++ last) none)
+    ∙ (ap (λ z. z ∷ last) (sym (root-same all kinds roots named line name callee arguments behind priority items s (name ∷ stands.root_names items) given.roots_are parts.0))
+    ∙ ap (λ (ks : List Kind). flat_map (kind_lines kinds) ks ++ (root_line kinds roots (root_of kinds s.roots line name callee arguments behind priority) ∷ last)) (sym none))
+
+outside-step : (all : List Item) (kinds roots : List (List ℕ)) → reader.kind_names all ≡ kinds → (line : ℕ) (w : What) (items : List Item) → Claims all kinds roots items
+    → (s : Scope) → s.place ≡ Outside → IsGiven all roots s (item_at line w ∷ items) → whats (item_at line w ∷ items) ≡ later kinds roots s.roots (item_at line w ∷ items)
+outside-step all kinds roots named line (what.Kind name arguments) items c s is given = kind-of-line all kinds roots line name arguments items c s given
+outside-step all kinds roots named line (what.Var more) items c s is given = let f : Head ≡ Outside = sym given.stand.1.0 ∙ is in cc
+outside-step all kinds roots named line (what.State name holds settled) items c s is given = absurd (no-begin s.place given.stand.1.0 is) where
+  no-begin : (place : Place) → MayBegin place → place ≡ Outside → ⊥
+  no-begin place h e = subst MayBegin e h
+outside-step all kinds roots named line (what.Step step) items c s is given = absurd (no-follow s.place step is given.stand.1.0) where
+  no-follow : (place : Place) (step : Step) → place ≡ Outside → MayFollow place step → ⊥
+  no-follow place (Label name) e may = subst IsInState e may
+  no-follow place step e may = let f : Code ≡ Outside = sym may ∙ e in cc
+outside-step all kinds roots named line what.End items c s is given = let f : Ended ≡ Outside = sym given.stand.1 ∙ is in cc
+outside-step all kinds roots named line (what.Root name callee arguments behind priority) items c s is given =
+    root-of-line all kinds roots named line name callee arguments behind priority items c s is given
+
+-- ---- all items
+
+claims : (all : List Item) (kinds roots : List (List ℕ)) → reader.kind_names all ≡ kinds → (items : List Item) → Claims all kinds roots items
+unfolding kinds_from roots_from
+claims all kinds roots named [] = record {
+  outside = λ s is given. refl;
+  begin = λ s positions kind has is given first variables states. let f : Outside ≡ Head = sym given.stand ∙ is in cc;
+  head = λ s positions kind has is given variables states. let f : Outside ≡ Head = sym given.stand ∙ is in cc;
+  code = λ s positions kind has state at is given variables states code. absurd (no-state s.place is given.stand);
+}
+claims all kinds roots named (item ∷ items) =
+    let c = claims all kinds roots named items in
+    record {
+      outside = outside-step all kinds roots named item.line item.what items c;
+      begin = begin-step all kinds roots named item.line item.what items c;
+      head = head-step all kinds roots named item.line item.what items c;
+      code = code-step all kinds roots named item.line item.what items c;
+    }
+
+pub items-lines : (items : List Item) → Stand first_scope items → names_known items first_scope items ≡ Ok tt → IsOrdered items → lines_of_program (program_of items) ≡ whats items
+unfolding lines_of_program program_of
+items-lines items stand known_ ordered =
+    let K = reader.kind_names items in
+    let R = stands.root_names items in
+    let kinds = kinds_from K items in
+    let roots = roots_from K [] items in
+    ap (λ ns. flat_map (kind_lines ns) kinds ++ map (root_line ns (root_names roots)) roots) (names-of-kinds K items)
+    ∙ (ap (λ ns. flat_map (kind_lines K) kinds ++ map (root_line K ns) roots) (names-of-roots K items [])
+    ∙ sym ((claims items K R refl items).outside first_scope refl (record { stand = stand; known = known_; ordered = ordered; roots_are = refl })))
