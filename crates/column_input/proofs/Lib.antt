@@ -1,0 +1,5 @@
+mod Ahead
+mod Fields
+mod Naming
+mod Rowing
+mod Tabling

@@ -1,0 +1,5 @@
+pub mod Records
+pub mod Reader
+pub mod Causes
+pub mod Reading
+pub mod Rows
