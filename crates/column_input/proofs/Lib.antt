@@ -3,3 +3,10 @@ mod Fields
 mod Naming
 mod Rowing
 mod Tabling
+mod Checked
+mod Tabulated
+mod FirstFaults
+mod FirstRows
+mod TableLaws
+mod Named
+mod Answered

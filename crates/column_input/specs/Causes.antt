@@ -1,4 +1,4 @@
--- The causes for which columns are refused: their numbers and their words.
+-- The causes for which columns are refused: their numbers, their words, and their order in one row.
 use Rattle.std.specs.Prelude.{ℕ, List, codes}
 use Rattle.column_input.specs.declared.fault.Cause.{Cause}
 use Rattle.column_input.specs.declared.fault.Cause.TheVariants.{NoHeader, TwiceNamed, Ragged, BadNumber, TooManyRows, TooManyColumns}
@@ -18,3 +18,12 @@ word_of Ragged = codes "Ragged"
 word_of BadNumber = codes "BadNumber"
 word_of TooManyRows = codes "TooManyRows"
 word_of TooManyColumns = codes "TooManyColumns"
+
+-- which causes come first in one row, the header being row 0
+abbrev pub rank : Cause → ℕ
+rank NoHeader = 0
+rank TooManyColumns = 1
+rank TwiceNamed = 2
+rank TooManyRows = 3
+rank Ragged = 4
+rank BadNumber = 5

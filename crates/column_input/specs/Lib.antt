@@ -3,3 +3,6 @@ pub mod Reader
 pub mod Causes
 pub mod Reading
 pub mod Rows
+pub mod Table
+pub mod Faults
+pub mod Laws

@@ -1,10 +1,12 @@
 //! Columns of numbers from files with comma separated fields.
 //!
-//! `specs/Records.antt` says which records a file has, and `specs/Reading.antt` which columns they give or what their first fault is.
+//! `specs/Records.antt` says which records a file has, and `specs/Reading.antt` which columns they give or what their first fault is;
+//! `specs/Table.antt` and `specs/Faults.antt` say the same place by place.
 #![tactic(auto)]
 
 mod fault;
 mod header;
+mod laws;
 mod reading;
 mod rows;
 mod source;
@@ -12,4 +14,5 @@ mod source;
 mod tests;
 
 pub use fault::{Cause, ColumnError};
+pub use laws::{columns_or_fault, name_finds_column};
 pub use reading::read_columns;
