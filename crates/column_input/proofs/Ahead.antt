@@ -3,14 +3,14 @@ use Rattle.std.proofs.Common.{◌≡◌, ℕ, zero, suc, ◌+◌, ◌<◌, ◌�
 use Rattle.std.specs.Prelude.{◌==◌, ◌||◌, IsSome}
 use Rattle.std.proofs.lemmas.Bool.{false≢true}
 use Rattle.csv.specs.Machine.{Read, next_record, step, in_field, start_field, start_record, is_end, ends_at_end, fields_after, field_after}
-use Rattle.csv.specs.Reading.{ExplainsRead, ReadRecord, Reached, default_config, is_flexible, records_from, records_next, stops_reader, took_first}
+use Rattle.csv.specs.Reading.{AreRecords, ExplainsRead, ReadRecord, Reached, default_config, is_flexible, records_from, records_next, stops_reader, strip_bom, took_first}
 use Rattle.csv.specs.declared.parser.State.{State}
 use Rattle.csv.specs.declared.parser.State.TheVariants as st
 use Rattle.csv.specs.declared.parser.Action.{Action}
 use Rattle.csv.specs.declared.error.ErrorKind.{ErrorKind}
 use Rattle.csv.specs.declared.error.ErrorKind.TheVariants as kind
 use Rattle.csv.proofs.ReadFacts.{rows-end, rows-more}
-use Rattle.column_input.specs.Records.{Record}
+use Rattle.column_input.specs.Records.{Record, records_of}
 use Rattle.column_input.specs.Reader.{Source, IsReading, ahead, left_of, records_left}
 
 -- ---- where a record ends
@@ -111,6 +111,23 @@ same-records (suc n) (suc m) s xs between a b = by (next_record default_config s
   by (Some p) e again =
       let shape = takes-byte s xs p between e in
       ap (λ (t : List Record). p.0 ∷ t) (again p.1 p.2 shape.1 (omega arith) (omega arith))
+
+-- the records that come next are all
+all-records : (n : ℕ) (s : State) (xs : List ℕ) → ends_at_end s ≡ false → length xs < n → AreRecords default_config s xs (records_from default_config n s xs)
+unfolding records_from Reached
+all-records zero s xs between l = absurd (omega arith)
+all-records (suc n) s xs between l = by (next_record default_config s [] [] xs) refl (λ t ys. all-records n t ys) where
+  by : (o : Option Read) → next_record default_config s [] [] xs ≡ o
+      → ((t : State) (ys : List ℕ) → ends_at_end t ≡ false → length ys < n → AreRecords default_config t ys (records_from default_config n t ys))
+      → AreRecords default_config s xs (records_next (records_from default_config n) o)
+  by None e again = (s, xs, (refl, refl), e)
+  by (Some p) e again =
+      let shape = takes-byte s xs p between e in
+      let rest = again p.1 p.2 shape.1 (omega arith) in
+      (rest.0, rest.1, (p, e, refl, rest.2), rest.3)
+
+pub each-record : (bytes : List ℕ) → AreRecords default_config st.StartRecord (strip_bom bytes) (records_of bytes)
+each-record bytes = all-records (length (strip_bom bytes) + 1) st.StartRecord (strip_bom bytes) refl (omega arith)
 
 left-more : (s : State) (xs : List ℕ) (p : Read) → ends_at_end s ≡ false → next_record default_config s [] [] xs ≡ Some p
     → records_left s (Some xs) ≡ p.0 ∷ records_left p.1 (Some p.2)

@@ -14,5 +14,5 @@ mod source;
 mod tests;
 
 pub use fault::{Cause, ColumnError};
-pub use laws::{columns_or_fault, name_finds_column};
+pub use laws::{columns_or_fault, each_record_is_read, name_finds_column};
 pub use reading::read_columns;
