@@ -1,6 +1,8 @@
 -- Why a command's plan stops, and what its text is where it does not.
-use Rattle.std.proofs.Common.{◌≡◌, ℕ, List, Result, Ok, Err, IsErr, IsOkAnd, refl, sym, ap, subst}
+use Rattle.std.proofs.Common.{◌≡◌, ℕ, ◌≤◌, inl, inr, List, Option, Some, None, Result, Ok, Err, IsErr, IsOk, IsOkAnd, IfSome, refl, sym, ap, subst}
+use Rattle.task_syntax.specs.Columns.{no_columns}
 use Rattle.task_syntax.specs.Valid.{IsValid}
+use Rattle.task_syntax.specs.declared.columns.Columns.{Columns}
 use Rattle.task_syntax.specs.declared.program.Program.{Program}
 use Rattle.task_text.specs.Fault.{number_of}
 use Rattle.task_text.specs.declared.fault.Fault.{Fault}
@@ -11,17 +13,23 @@ use Rattle.ktask_cli.specs.declared.fetch_error.FetchError.{FetchError}
 use Rattle.ktask_cli.specs.declared.stop.InputFile.TheVariants as file
 use Rattle.ktask_cli.specs.declared.stop.Stop.{Stop}
 use Rattle.ktask_cli.specs.declared.stop.Stop.TheVariants as stop
-use Rattle.ktask_cli.specs.Plan.{content_of}
-use Rattle.ktask_cli.specs.Ready.{read_from, read_in, Checks, sizes_line, program_under, valid_under, sizes_under, text_under}
+use Rattle.ktask_cli.specs.Plan.{Plan, content_of, judged, OrWants, ◌>>=◌}
+use Rattle.ktask_cli.specs.Ready.{read_from, read_in, Checks, sizes_line, program_under, columns_from, columns_read, valid_under, columns_under, input_under, sizes_under, text_under}
 use Rattle.ktask_cli.specs.Seen.{ShelfSeen, Fetches}
-use Rattle.ktask_cli.specs.Statuses.{Suits}
+use Rattle.ktask_cli.specs.Statuses.{Suits, HasColumns, IsFetched}
+use Rattle.column_input.specs.Records.{records_of}
+use Rattle.column_input.specs.Reading.{columns_in, Fault as ColumnFault}
 use Rattle.ktask_cli.specs.Stop.{status_of, fetch_stop}
-use Rattle.ktask_cli.proofs.Plans.{judged_ready, Stopped, judged_stop, wanted, earlier, here, content_read, content_refused}
+use Rattle.ktask_cli.proofs.Plans.{judged_ready, Stopped, judged_stop, wanted, earlier, here, content_read, content_refused, both_ready, StoppedIn, in_first, in_next, both_stop, was_judged}
 
--- the file was fetched, and its text is a program of which P holds
-pub record Took (P : Program → Type 0) (name : List ℕ) (was is : ShelfSeen) : Type 0 where
+-- the shelf gives this text under a name, where it tells what it holds
+abbrev pub Tells : ShelfSeen → List ℕ → List ℕ → Type 0
+Tells shelf name text = IfSome (shelf.holds name) (λ held. text ≡ held)
+
+-- the program was fetched, and its text is a program of which P holds
+pub record Took (P : Program → Type 0) (name : List ℕ) (was : ShelfSeen) : Type 0 where
   pub text : List ℕ
-  pub fetched : Fetches was is name (Ok text)
+  pub tells : Tells was name text
   pub suits : IsOkAnd (program_in text) P
 
 -- why a plan stops, where the text is to be a program of which P holds
@@ -80,6 +88,7 @@ invalid_status p stop.WordsRefused h = absurd h
 invalid_status p (stop.CannotRead which) h = absurd h
 invalid_status p (stop.TooLong which) h = absurd h
 invalid_status p (stop.ProgramFault cause line word) h = absurd h
+invalid_status p (stop.ColumnsFault cause row column) h = absurd h
 invalid_status p stop.WriteFault h = absurd h
 invalid_status p stop.WantOfMemory h = absurd h
 
@@ -92,18 +101,128 @@ valid_stopped P only name was is s f = by (judged_stop (program_under name) Chec
   by (here p c h) = let r = program_read name was is p c in let i = invalid_status p s h in
       unsuited r.text r.fetched i.1 (λ suits. i.0 (only p (suited P (program_in r.text) p r.is_program suits)))
 
-pub run_took : (name : List ℕ) (was is : ShelfSeen) (p : Program) → valid_under name was is (Ok p) → Took (Suits Run) name was is
-run_took name was is p f = let r = valid_read name was is p f in
-    record { text = r.0.text; fetched = r.0.fetched; suits = suits_by (Suits Run) (program_in r.0.text) p r.0.is_program r.1 }
+-- what a part leaves of the shelf
+pub record Keeps (was is : ShelfSeen) : Type 0 where
+  pub holds : is.holds ≡ was.holds
+  pub faults : was.faults ≤ is.faults
 
-pub run_stopped : (name : List ℕ) (was is : ShelfSeen) (s : Stop) → valid_under name was is (Err s) → Cause (Suits Run) name was is s
-run_stopped name was is s f = valid_stopped (Suits Run) (λ p h. h) name was is s f
+valid_keeps : (name : List ℕ) (was is : ShelfSeen) (p : Program) → valid_under name was is (Ok p) → Keeps was is
+valid_keeps name was is p f = let r = valid_read name was is p f in record { holds = r.0.fetched.kept; faults = r.0.fetched.cause }
 
-pub check_took : (name : List ℕ) (was is : ShelfSeen) (text : List ℕ) → sizes_under name was is (Ok text) → Took (Suits Check) name was is
+valid_told : (name : List ℕ) (was is : ShelfSeen) (p : Program) → valid_under name was is (Ok p) → IsFetched is
+valid_told name was is p f = let r = valid_read name was is p f in r.0.fetched.told
+
+valid_took : (P : Program → Type 0) → ((p : Program) → IsValid p → P p) → (name : List ℕ) (was is : ShelfSeen) (p : Program) → valid_under name was is (Ok p) → Took P name was
+valid_took P for name was is p f = let r = valid_read name was is p f in
+    record { text = r.0.text; tells = r.0.fetched.content; suits = suits_by P (program_in r.0.text) p r.0.is_program (for p r.1) }
+
+-- ---- columns
+
+-- the shelf after the columns: where they are named, they were fetched, and have columns
+pub data TookColumns (was is : ShelfSeen) : Option (List ℕ) → Type 0 where
+  none_named : is ≡ was → TookColumns was is None
+  read : (name text : List ℕ) → Fetches was is name (Ok text) → HasColumns text → TookColumns was is (Some name)
+
+has_columns : (r : Result Columns ColumnFault) (c : Columns) → Ok c ≡ columns_from r → IsOk r
+has_columns (Ok d) c e = refl
+has_columns (Err fault) c e = cc
+
+no_columns_in : (r : Result Columns ColumnFault) (s : Stop) → Err s ≡ columns_from r → (¬ IsOk r) × (status_of s ≡ 6)
+no_columns_in (Ok d) s e = cc
+no_columns_in (Err fault) s e = let t : s ≡ stop.ColumnsFault fault.cause fault.row fault.column = cc in ((λ h. cc), ap status_of t)
+
+columns_took : (name : Option (List ℕ)) (was is : ShelfSeen) (c : Columns) → columns_under name was is (Ok c) → TookColumns was is name
+columns_took None was is c f = none_named (was_judged (λ result. result ≡ Ok no_columns) was is (Ok c) f).0
+columns_took (Some name) was is c f = let j = judged_ready (content_of file.Columns name) (λ text result. result ≡ columns_read text) was is c f in
+    read name j.0 (content_read file.Columns name was is j.0 j.1) (has_columns (columns_in (records_of j.0)) c j.2)
+
+-- why columns stop a run
+pub data ColumnsCause (was is : ShelfSeen) (s : Stop) : Option (List ℕ) → Type 0 where
+  columns_want : {name : Option (List ℕ)} → s ≡ stop.WantOfMemory → ColumnsCause was is s name
+  columns_unfetched : (name : List ℕ) (error : FetchError) → Fetches was is name (Err error) → s ≡ fetch_stop file.Columns error → ColumnsCause was is s (Some name)
+  columns_refused : (name text : List ℕ) → Fetches was is name (Ok text) → status_of s ≡ 6 → ¬ HasColumns text → ColumnsCause was is s (Some name)
+
+columns_stopped : (name : Option (List ℕ)) (was is : ShelfSeen) (s : Stop) → columns_under name was is (Err s) → ColumnsCause was is s name
+columns_stopped None was is s f = by (was_judged (λ result. result ≡ Ok no_columns) was is (Err s) f).1 where
+  by : OrWants (λ result. result ≡ Ok no_columns) (Err s) → ColumnsCause was is s None
+  by (inl e) = columns_want cc
+  by (inr e) = cc
+columns_stopped (Some name) was is s f = by (judged_stop (content_of file.Columns name) (λ text result. result ≡ columns_read text) was is s f) where
+  by : Stopped (content_of file.Columns name) (λ text result. result ≡ columns_read text) was is s → ColumnsCause was is s (Some name)
+  by (wanted e) = columns_want e
+  by (earlier e) = let r = content_refused file.Columns name was is s e in columns_unfetched name r.0 r.1 r.2
+  by (here text c e) = let r = no_columns_in (columns_in (records_of text)) s e in columns_refused name text (content_read file.Columns name was is text c) r.1 r.0
+
+-- ---- runs
+
+-- the parts of a run behind a valid program
+abbrev pub Pairs : Program → Columns → Result (Program × Columns) Stop → Type 0
+Pairs p c result = result ≡ Ok (p, c)
+
+abbrev pub Behind : Option (List ℕ) → Program → Plan (Program × Columns)
+Behind columns p = columns_under columns >>= (λ c. judged (Pairs p c))
+
+-- where a file of columns is named, it has columns, if the shelf tells what it holds
+abbrev pub Had : Option (List ℕ) → ShelfSeen → Type 0
+Had columns was = (file : List ℕ) → columns ≡ Some file → IfSome (was.holds file) HasColumns
+
+-- a run's program and columns were taken
+pub record TookInput (name : List ℕ) (columns : Option (List ℕ)) (was is : ShelfSeen) : Type 0 where
+  pub program : Took (Suits Run) name was
+  pub told : IsFetched is
+  pub had : Had columns was
+
+had_behind : (columns : Option (List ℕ)) (was middle is : ShelfSeen) → Keeps was middle → TookColumns middle is columns → Had columns was
+had_behind None was middle is kept took file named = cc
+had_behind (Some other_file) was middle is kept (read known text fetched has) file named =
+    let e : other_file ≡ file = cc in
+    let content : IfSome (was.holds other_file) (λ held. text ≡ held) = subst (λ (h : List ℕ → Option (List ℕ)). IfSome (h other_file) (λ held. text ≡ held)) kept.holds fetched.content in
+    subst (λ f. IfSome (was.holds f) HasColumns) e (by (was.holds other_file) content) where
+      by : (o : Option (List ℕ)) → IfSome o (λ held. text ≡ held) → IfSome o HasColumns
+      by None h = tt
+      by (Some held) h = subst HasColumns h has
+
+told_behind : (columns : Option (List ℕ)) (middle is : ShelfSeen) → IsFetched middle → TookColumns middle is columns → IsFetched is
+told_behind None middle is told (none_named same) = subst IsFetched (sym same) told
+told_behind (Some name) middle is told (read n text fetched has) = fetched.told
+
+pub run_took : (name : List ℕ) (columns : Option (List ℕ)) (was is : ShelfSeen) (input : Program × Columns) → input_under name columns was is (Ok input) → TookInput name columns was is
+run_took name columns was is input f =
+    let r = both_ready (valid_under name) (Behind columns) was is input f in
+    let j = judged_ready (columns_under columns) (Pairs r.1) r.0 is input r.3 in
+    record {
+      program = valid_took (Suits Run) (λ p h. h) name was r.0 r.1 r.2;
+      told = told_behind columns r.0 is (valid_told name was r.0 r.1 r.2) (columns_took columns r.0 is j.0 j.1);
+      had = had_behind columns was r.0 is (valid_keeps name was r.0 r.1 r.2) (columns_took columns r.0 is j.0 j.1);
+    }
+
+-- why a run stops
+pub data RunCause (name : List ℕ) (columns : Option (List ℕ)) (was is : ShelfSeen) (s : Stop) : Type 0 where
+  in_program : Cause (Suits Run) name was is s → RunCause name columns was is s
+  in_columns : (middle : ShelfSeen) → Keeps was middle → Took (Suits Run) name was → ColumnsCause middle is s columns → RunCause name columns was is s
+
+pub run_stopped : (name : List ℕ) (columns : Option (List ℕ)) (was is : ShelfSeen) (s : Stop) → input_under name columns was is (Err s) → RunCause name columns was is s
+run_stopped name columns was is s f = by (both_stop (valid_under name) (Behind columns) was is s f) where
+  behind : (middle : ShelfSeen) (p : Program) → valid_under name was middle (Ok p) → Stopped (columns_under columns) (Pairs p) middle is s → RunCause name columns was is s
+  behind middle p v (wanted e) = in_program (wants e)
+  behind middle p v (earlier e) = in_columns middle (valid_keeps name was middle p v) (valid_took (Suits Run) (λ q h. h) name was middle p v) (columns_stopped columns middle is s e)
+  behind middle p v (here c g e) = cc
+
+  by : StoppedIn (valid_under name) (Behind columns) was is s → RunCause name columns was is s
+  by (in_first e) = in_program (valid_stopped (Suits Run) (λ p h. h) name was is s e)
+  by (in_next middle p v n) = behind middle p v (judged_stop (columns_under columns) (Pairs p) middle is s n)
+
+-- ---- the other commands
+
+-- a program was taken by the one fetch of a command
+pub record TookOne (P : Program → Type 0) (name : List ℕ) (was is : ShelfSeen) : Type 0 where
+  pub program : Took P name was
+  pub told : IsFetched is
+
+pub check_took : (name : List ℕ) (was is : ShelfSeen) (text : List ℕ) → sizes_under name was is (Ok text) → TookOne (Suits Check) name was is
 check_took name was is text f =
     let j = judged_ready (valid_under name) (λ q result. result ≡ Ok (sizes_line q)) was is text f in
-    let r = valid_read name was is j.0 j.1 in
-    record { text = r.0.text; fetched = r.0.fetched; suits = suits_by (Suits Check) (program_in r.0.text) j.0 r.0.is_program r.1 }
+    record { program = valid_took (Suits Check) (λ p h. h) name was is j.0 j.1; told = valid_told name was is j.0 j.1 }
 
 pub check_stopped : (name : List ℕ) (was is : ShelfSeen) (s : Stop) → sizes_under name was is (Err s) → Cause (Suits Check) name was is s
 check_stopped name was is s f = by (judged_stop (valid_under name) (λ q result. result ≡ Ok (sizes_line q)) was is s f) where
@@ -112,11 +231,11 @@ check_stopped name was is s f = by (judged_stop (valid_under name) (λ q result.
   by (earlier e) = valid_stopped (Suits Check) (λ p h. h) name was is s e
   by (here p c e) = cc
 
-pub print_took : (name : List ℕ) (was is : ShelfSeen) (text : List ℕ) → text_under name was is (Ok text) → Took (Suits Print) name was is
+pub print_took : (name : List ℕ) (was is : ShelfSeen) (text : List ℕ) → text_under name was is (Ok text) → TookOne (Suits Print) name was is
 print_took name was is text f =
     let j = judged_ready (program_under name) (λ q result. result ≡ Ok (text_of q)) was is text f in
     let r = program_read name was is j.0 j.1 in
-    record { text = r.text; fetched = r.fetched; suits = suits_by (Suits Print) (program_in r.text) j.0 r.is_program tt }
+    record { program = record { text = r.text; tells = r.fetched.content; suits = suits_by (Suits Print) (program_in r.text) j.0 r.is_program tt }; told = r.fetched.told }
 
 pub print_stopped : (name : List ℕ) (was is : ShelfSeen) (s : Stop) → text_under name was is (Err s) → Cause (Suits Print) name was is s
 print_stopped name was is s f = by (judged_stop (program_under name) (λ q result. result ≡ Ok (text_of q)) was is s f) where

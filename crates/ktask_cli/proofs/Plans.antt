@@ -65,9 +65,54 @@ pub content_fetched : (which : InputFile) (name : List ℕ) (was is : ShelfSeen)
 unfolding content_of
 content_fetched which name was is answer fetched = (answer, fetched, refl)
 
--- what is made of something ready leaves the plan as it is, and may come to want of memory
-pub ran : {A B R : Type 0} (first : Plan A) (P : A → Result B Stop → Type 0) (was is : ShelfSeen) (ready : B) (view : R → B) (Q : R → Type 0) (result : Result R Stop)
-    → Judges first P was is (Ok ready) → IfOk result (λ r. (view r ≡ ready) × Q r) → IfErr result (λ stop. stop ≡ WantOfMemory)
-    → Judges first P was is (result_map_both view (λ stop. stop) result)
-ran first P was is ready view Q (Ok r) f same wants = subst (λ b. Judges first P was is (Ok b)) (sym same.0) f
-ran first P was is ready view Q (Err stop) f same wants = subst (λ s. Judges first P was is (Err s)) (sym wants) (wants_instead first P was is ready f)
+-- ---- any part behind another
+
+pub goes_on : {A B : Type 0} (first : Plan A) (next : A → Plan B) (was middle is : ShelfSeen) (ready : A) (result : Result B Stop)
+    → first was middle (Ok ready) → next ready middle is result → (first >>= next) was is result
+unfolding ◌>>=◌
+goes_on first next was middle is ready result f n = (middle, Ok ready, f, n)
+
+pub stops_both : {A B : Type 0} (first : Plan A) (next : A → Plan B) (was is : ShelfSeen) (stop : Stop) → first was is (Err stop) → (first >>= next) was is (Err stop)
+unfolding ◌>>=◌
+stops_both first next was is stop f = (is, Err stop, f, (refl, refl))
+
+-- what the first part came to, where both came to something
+pub both_ready : {A B : Type 0} (first : Plan A) (next : A → Plan B) (was is : ShelfSeen) (ready : B) → (first >>= next) was is (Ok ready)
+    → (middle : ShelfSeen) × (a : A) × first was middle (Ok a) × next a middle is (Ok ready)
+unfolding ◌>>=◌
+both_ready first next was is ready (middle, Ok a, f, n) = (middle, a, f, n)
+both_ready first next was is ready (middle, Err s, f, (same, e)) = cc
+
+-- which part stops
+pub data StoppedIn {A B : Type 0} (first : Plan A) (next : A → Plan B) (was is : ShelfSeen) (stop : Stop) : Type 0 where
+  in_first : first was is (Err stop) → StoppedIn first next was is stop
+  in_next : (middle : ShelfSeen) (a : A) → first was middle (Ok a) → next a middle is (Err stop) → StoppedIn first next was is stop
+
+pub both_stop : {A B : Type 0} (first : Plan A) (next : A → Plan B) (was is : ShelfSeen) (stop : Stop) → (first >>= next) was is (Err stop) → StoppedIn first next was is stop
+unfolding ◌>>=◌
+both_stop first next was is stop (middle, Ok a, f, n) = in_next middle a f n
+both_stop first next was is stop (middle, Err s, f, (same, e)) =
+    let t : stop ≡ s = cc in in_first (subst (λ x. first was is (Err x)) (sym t) (subst (λ m. first was m (Err s)) (sym same) f))
+
+-- a part that only judges
+pub judge : {B : Type 0} (P : Result B Stop → Type 0) (was : ShelfSeen) (result : Result B Stop) → OrWants P result → judged P was was result
+unfolding judged
+judge P was result p = (refl, p)
+
+pub was_judged : {B : Type 0} (P : Result B Stop → Type 0) (was is : ShelfSeen) (result : Result B Stop) → judged P was is result → (is ≡ was) × OrWants P result
+unfolding judged
+was_judged P was is result j = j
+
+-- two parts and a judgement may come to want of memory instead of something ready
+pub want_for_both : {A B C : Type 0} (first : Plan A) (second : Plan B) (P : A → B → Result C Stop → Type 0) (was is : ShelfSeen) (ready : C)
+    → (first >>= (λ a. second >>= (λ b. judged (P a b)))) was is (Ok ready) → (first >>= (λ a. second >>= (λ b. judged (P a b)))) was is (Err WantOfMemory)
+want_for_both first second P was is ready f =
+    let r = both_ready first (λ a. second >>= (λ b. judged (P a b))) was is ready f in
+    goes_on first (λ a. second >>= (λ b. judged (P a b))) was r.0 is r.1 (Err WantOfMemory) r.2 (wants_instead second (λ b. P r.1 b) r.0 is ready r.3)
+
+pub ran_with : {A B C R : Type 0} (first : Plan A) (second : Plan B) (P : A → B → Result C Stop → Type 0) (was is : ShelfSeen) (ready : C) (view : R → C) (Q : R → Type 0) (result : Result R Stop)
+    → (first >>= (λ a. second >>= (λ b. judged (P a b)))) was is (Ok ready) → IfOk result (λ r. (view r ≡ ready) × Q r) → IfErr result (λ stop. stop ≡ WantOfMemory)
+    → (first >>= (λ a. second >>= (λ b. judged (P a b)))) was is (result_map_both view (λ stop. stop) result)
+ran_with first second P was is ready view Q (Ok r) f same wants = subst (λ b. (first >>= (λ a. second >>= (λ b. judged (P a b)))) was is (Ok b)) (sym same.0) f
+ran_with first second P was is ready view Q (Err stop) f same wants =
+    subst (λ s. (first >>= (λ a. second >>= (λ b. judged (P a b)))) was is (Err s)) (sym wants) (want_for_both first second P was is ready f)

@@ -1,21 +1,22 @@
 -- How a command ends: what it answers, and what the two sinks took.
 use Rattle.std.specs.Prelude.{◌≡◌, ℕ, ◌⊎◌, List, [], Option, Some, None, Result, MatchResult, IsNone}
 use Rattle.std.specs.Io.KnownBytes.{Appends}
-use Rattle.task_syntax.specs.Columns.{no_columns}
+use Rattle.task_syntax.specs.declared.columns.Columns.{Columns}
 use Rattle.task_syntax.specs.declared.program.Program.{Program}
 use Rattle.plain_engine.specs.RunEnd.{RunEnd}
 use Rattle.plain_engine.specs.SoundEnd.{IsSoundEnd}
-use Rattle.ktask_cli.specs.declared.choice.Command.{Command}
 use Rattle.ktask_cli.specs.declared.choice.Command.TheVariants.{Run, Check, Print}
 use Rattle.ktask_cli.specs.declared.stop.Stop.{Stop}
 use Rattle.ktask_cli.specs.declared.stop.Stop.TheVariants.{WordsRefused, WriteFault}
+use Rattle.ktask_cli.specs.Choice.{Choice}
 use Rattle.ktask_cli.specs.Count.{Rose}
 use Rattle.ktask_cli.specs.Plan.{Plan}
-use Rattle.ktask_cli.specs.Ready.{valid_under, sizes_under, text_under}
+use Rattle.ktask_cli.specs.Ready.{input_under, sizes_under, text_under}
 use Rattle.ktask_cli.specs.Refusal.{Tells, Told}
 use Rattle.ktask_cli.specs.Report.{report_of, status_of_ends}
 use Rattle.ktask_cli.specs.Seen.{ShelfSeen, SinkSeen}
 use Rattle.ktask_cli.specs.Sink.{AppendsPrefix}
+use Rattle.ktask_cli.specs.Stop.{named_for}
 
 -- the status and the ended run that are answered, and the two sinks before and after
 pub record Answer : Type 0 where
@@ -52,12 +53,12 @@ pub record TakesFront (text : List ℕ) (a : Answer) : Type 0 where
 abbrev pub Writes : List ℕ → ℕ → Answer → Type 0
 Writes text status a = Takes text status a ⊎ TakesFront text a
 
--- the program was run without columns, its end is sound, and its report was offered, with the status of its roots
-pub record Runs (p : Program) (a : Answer) : Type 0 where
+-- the program was run with the columns, its end is sound, and its report was offered, with the status of its roots
+pub record Runs (input : Program × Columns) (a : Answer) : Type 0 where
   pub end : RunEnd
   pub finished : a.finished ≡ Some end
-  pub sound : IsSoundEnd p no_columns end
-  pub offered : Writes (report_of p end) (status_of_ends end.roots) a
+  pub sound : IsSoundEnd input.0 input.1 end
+  pub offered : Writes (report_of input.0 end) (status_of_ends end.roots) a
 
 -- nothing was run, and the text was offered, with status 0
 pub record Prints (text : List ℕ) (a : Answer) : Type 0 where
@@ -70,15 +71,15 @@ pub record Stops (stop : Stop) (name : List ℕ) (a : Answer) : Type 0 where
   pub out : a.out_is ≡ a.out_was
   pub told : Told stop name a.status a.err_was a.err_is
 
--- the shelf was asked by the plan alone, and the command ended with what the plan came to
-pub record Reaches {Ready : Type 0} (plan : Plan Ready) (Ends : Ready → Answer → Type 0) (name : List ℕ) (was is : ShelfSeen) (a : Answer) : Type 0 where
+-- the shelf was asked by the plan alone, and the command ended with what the plan came to; a stop is told with a name
+pub record Reaches {Ready : Type 0} (plan : Plan Ready) (Ends : Ready → Answer → Type 0) (named : Stop → List ℕ) (was is : ShelfSeen) (a : Answer) : Type 0 where
   pub reached : Result Ready Stop
   pub follows : plan was is reached
-  pub ended : MatchResult reached (λ ready. Ends ready a) (λ stop. Stops stop name a)
+  pub ended : MatchResult reached (λ ready. Ends ready a) (λ stop. Stops stop (named stop) a)
 
 -- what is done for a choice; where the words are refused, the shelf is not asked
-abbrev pub Does : Option (Command × List ℕ) → ShelfSeen → ShelfSeen → Answer → Type 0
+abbrev pub Does : Option Choice → ShelfSeen → ShelfSeen → Answer → Type 0
 Does None was is a = (is ≡ was) × Stops WordsRefused [] a
-Does (Some (Run, name)) was is a = Reaches (valid_under name) Runs name was is a
-Does (Some (Check, name)) was is a = Reaches (sizes_under name) Prints name was is a
-Does (Some (Print, name)) was is a = Reaches (text_under name) Prints name was is a
+Does (Some (Run, name, columns)) was is a = Reaches (input_under name columns) Runs (named_for name columns) was is a
+Does (Some (Check, name, columns)) was is a = Reaches (sizes_under name) Prints (λ stop. name) was is a
+Does (Some (Print, name, columns)) was is a = Reaches (text_under name) Prints (λ stop. name) was is a

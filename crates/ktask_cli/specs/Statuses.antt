@@ -1,11 +1,13 @@
 -- When each exit status comes. Want of memory, 9, may come in the place of any of them but 2 and those of a run.
-use Rattle.std.specs.Prelude.{◌≡◌, ℕ, ◌<◌, ◌⊎◌, ◌↔◌, List, length, Option, Some, None, Ok, Err, IsOkAnd, IsSome, IfSome, IsTrue}
+use Rattle.std.specs.Prelude.{◌≡◌, ℕ, ◌<◌, ◌⊎◌, ◌↔◌, List, length, Option, Some, None, Ok, Err, IsOk, IsOkAnd, IsSome, IsSomeAnd, IfSome, IsTrue}
 use Rattle.std.specs.List.{list_any}
 use Rattle.task_syntax.specs.Places.{Each}
 use Rattle.task_syntax.specs.Valid.{IsValid}
 use Rattle.task_syntax.specs.declared.program.Program.{Program}
 use Rattle.task_syntax.specs.declared.value.Value.TheVariants.{Number}
 use Rattle.task_reader.specs.Read.{program_in}
+use Rattle.column_input.specs.Records.{records_of}
+use Rattle.column_input.specs.Reading.{columns_in}
 use Rattle.plain_engine.specs.RunEnd.{RunEnd}
 use Rattle.plain_engine.specs.SoundEnd.{most_activations}
 use Rattle.plain_engine.specs.declared.end.RootEnd.{RootEnd}
@@ -13,6 +15,7 @@ use Rattle.plain_engine.specs.declared.end.RootEnd.TheVariants.{Value, Cut}
 use Rattle.ktask_cli.specs.declared.choice.Command.{Command}
 use Rattle.ktask_cli.specs.declared.choice.Command.TheVariants.{Run, Check, Print}
 use Rattle.ktask_cli.specs.declared.fetch_error.FetchError.TheVariants.{Failed, TooLong}
+use Rattle.ktask_cli.specs.Choice.{Choice}
 use Rattle.ktask_cli.specs.Count.{Rose}
 use Rattle.ktask_cli.specs.Outcome.{Answer}
 use Rattle.ktask_cli.specs.Report.{status_of_ends, is_trap, is_limit}
@@ -29,6 +32,10 @@ Suits Print program = Unit {0}
 abbrev pub SuitsText : Command → List ℕ → Type 0
 SuitsText command text = IsOkAnd (program_in text) (Suits command)
 
+-- the text has columns
+abbrev pub HasColumns : List ℕ → Type 0
+HasColumns text = IsOk (columns_in (records_of text))
+
 -- the last fetch gave its content, or was refused
 abbrev pub IsFetched : ShelfSeen → Type 0
 IsFetched shelf = shelf.last ≡ Some (Ok tt)
@@ -41,21 +48,33 @@ abbrev pub IsOrWants : ℕ → Answer → Type 0
 IsOrWants status a = (a.status ≡ status) ⊎ (a.status ≡ 9)
 
 -- 2 exactly where the words are refused
-abbrev pub TwoForWords : Option (Command × List ℕ) → Answer → Type 0
+abbrev pub TwoForWords : Option Choice → Answer → Type 0
 TwoForWords choice a = (a.status ≡ 2) ↔ (choice ≡ None)
 
--- 5 exactly where the file was fetched and its text does not suit the command
-abbrev pub FiveForText : Option (Command × List ℕ) → ShelfSeen → ShelfSeen → Answer → Type 0
+-- 5 exactly where the program was fetched and its text does not suit the command
+abbrev pub FiveForText : Option Choice → ShelfSeen → ShelfSeen → Answer → Type 0
 FiveForText None was is a = ¬ (a.status ≡ 5)
-FiveForText (Some (command, name)) was is a =
+FiveForText (Some (command, name, columns)) was is a =
     (a.status ≡ 5 → IsFetched is × ((text : List ℕ) × IfSome (was.holds name) (λ held. text ≡ held) × ¬ SuitsText command text))
     × (IsFetched is → IfSome (was.holds name) (λ held. ¬ SuitsText command held → IsOrWants 5 a))
 
--- 7 exactly where the fetch was refused: the shelf had a fault, or the file is too long
-abbrev pub SevenForFetch : Option (Command × List ℕ) → ShelfSeen → ShelfSeen → Answer → Type 0
+-- 6 exactly where the columns were fetched, all before was accepted, and they are refused
+abbrev pub SixForColumns : Option Choice → ShelfSeen → ShelfSeen → Answer → Type 0
+SixForColumns None was is a = ¬ (a.status ≡ 6)
+SixForColumns (Some (command, name, None)) was is a = ¬ (a.status ≡ 6)
+SixForColumns (Some (command, name, Some columns)) was is a =
+    (a.status ≡ 6 → IsFetched is × ((text : List ℕ) × IfSome (was.holds columns) (λ held. text ≡ held) × ¬ HasColumns text))
+    × (command ≡ Run → IsFetched is → IfSome (was.holds name) (λ program. SuitsText command program → IfSome (was.holds columns) (λ held. ¬ HasColumns held → IsOrWants 6 a)))
+
+-- the shelf holds a longer file than is read under this name, where it tells what it holds
+abbrev pub IsLong : ShelfSeen → List ℕ → Type 0
+IsLong shelf name = IfSome (shelf.holds name) (λ held. longest_file < length held)
+
+-- 7 exactly where a fetch was refused: the shelf had a fault, or the file is too long
+abbrev pub SevenForFetch : Option Choice → ShelfSeen → ShelfSeen → Answer → Type 0
 SevenForFetch None was is a = ¬ (a.status ≡ 7)
-SevenForFetch (Some (command, name)) was is a =
-    (a.status ≡ 7 → IsRefused is × (Rose was.faults is.faults ⊎ IfSome (was.holds name) (λ held. longest_file < length held)))
+SevenForFetch (Some (command, name, columns)) was is a =
+    (a.status ≡ 7 → IsRefused is × (Rose was.faults is.faults ⊎ (IsLong was name ⊎ IsSomeAnd columns (IsLong was))))
     × (IsRefused is → IsOrWants 7 a)
 
 -- 8 only where `out` had a fault
@@ -63,31 +82,36 @@ abbrev pub EightForOut : Answer → Type 0
 EightForOut a = a.status ≡ 8 → Rose a.out_was.faults a.out_is.faults
 
 -- 0 for a command other than a run whose text suits it, where `out` had no fault
-abbrev pub ZeroForPrinted : Option (Command × List ℕ) → ShelfSeen → ShelfSeen → Answer → Type 0
+abbrev pub ZeroForPrinted : Option Choice → ShelfSeen → ShelfSeen → Answer → Type 0
 ZeroForPrinted None was is a = ¬ (a.status ≡ 0)
-ZeroForPrinted (Some (command, name)) was is a = ¬ (command ≡ Run) → IsFetched is
+ZeroForPrinted (Some (command, name, columns)) was is a = ¬ (command ≡ Run) → IsFetched is
     → IfSome (was.holds name) (λ held. SuitsText command held → (¬ Rose a.out_was.faults a.out_is.faults) → IsOrWants 0 a)
 
--- a run is reached for a text that suits it
-abbrev pub RunForSuited : Option (Command × List ℕ) → ShelfSeen → ShelfSeen → Answer → Type 0
-RunForSuited None was is a = Unit {0}
-RunForSuited (Some (command, name)) was is a = command ≡ Run → IsFetched is
-    → IfSome (was.holds name) (λ held. SuitsText command held → IsSome a.finished ⊎ (a.status ≡ 9))
+-- the shelf tells columns under the name, where one is given
+abbrev pub HoldsColumns : ShelfSeen → Option (List ℕ) → Type 0
+HoldsColumns shelf None = Unit {0}
+HoldsColumns shelf (Some name) = IsSomeAnd (shelf.holds name) HasColumns
 
--- `out` took nothing at 2, 5, 7 and 9
+-- a run is reached for a text that suits it, and columns
+abbrev pub RunForSuited : Option Choice → ShelfSeen → ShelfSeen → Answer → Type 0
+RunForSuited None was is a = Unit {0}
+RunForSuited (Some (command, name, columns)) was is a = command ≡ Run → IsFetched is
+    → IfSome (was.holds name) (λ held. SuitsText command held → HoldsColumns was columns → IsSome a.finished ⊎ (a.status ≡ 9))
+
+-- `out` took nothing at 2, 5, 6, 7 and 9
 abbrev pub QuietWhereRefused : Answer → Type 0
-QuietWhereRefused a = (a.status ≡ 2) ⊎ ((a.status ≡ 5) ⊎ ((a.status ≡ 7) ⊎ (a.status ≡ 9))) → a.out_is ≡ a.out_was
+QuietWhereRefused a = (a.status ≡ 2) ⊎ ((a.status ≡ 5) ⊎ ((a.status ≡ 6) ⊎ ((a.status ≡ 7) ⊎ (a.status ≡ 9)))) → a.out_is ≡ a.out_was
 
 -- `err` took nothing at 0, 1 and 4
 abbrev pub SilentWhereDone : Answer → Type 0
 SilentWhereDone a = (a.status ≡ 0) ⊎ ((a.status ≡ 1) ⊎ (a.status ≡ 4)) → a.err_is ≡ a.err_was
 
-abbrev pub IsRun : Option (Command × List ℕ) → Type 0
+abbrev pub IsRun : Option Choice → Type 0
 IsRun None = ⊥
-IsRun (Some (command, name)) = command ≡ Run
+IsRun (Some (command, name, columns)) = command ≡ Run
 
 -- a run was reached exactly where one is asked for and the status is 0, 1, 4 or 8; 1 and 4 come only for a run
-abbrev pub RunsAtStatus : Option (Command × List ℕ) → Answer → Type 0
+abbrev pub RunsAtStatus : Option Choice → Answer → Type 0
 RunsAtStatus choice a =
     (IsSome a.finished ↔ (IsRun choice × ((a.status ≡ 0) ⊎ ((a.status ≡ 1) ⊎ ((a.status ≡ 4) ⊎ (a.status ≡ 8))))))
     × ((a.status ≡ 1) ⊎ (a.status ≡ 4) → IsRun choice)
@@ -112,13 +136,14 @@ abbrev pub EndsByStatus : Answer → Type 0
 EndsByStatus a = IfSome a.finished (λ e. IsStatusOf e a.status)
 
 -- each status of an answer comes for its causes
-pub record StatusHasCause (choice : Option (Command × List ℕ)) (was is : ShelfSeen) (a : Answer) : Type 0 where
+pub record StatusHasCause (choice : Option Choice) (was is : ShelfSeen) (a : Answer) : Type 0 where
   pub ends : EndsByStatus a
   pub runs : RunsAtStatus choice a
   pub zero_printed : ZeroForPrinted choice was is a
   pub run_suited : RunForSuited choice was is a
   pub two : TwoForWords choice a
   pub five : FiveForText choice was is a
+  pub six : SixForColumns choice was is a
   pub seven : SevenForFetch choice was is a
   pub eight : EightForOut a
   pub quiet : QuietWhereRefused a

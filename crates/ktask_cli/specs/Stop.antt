@@ -1,10 +1,12 @@
 -- The reasons to stop: the exit status and the line of each.
-use Rattle.std.specs.Prelude.{ℕ, List, [], ◌∷◌, ◌++◌, codes, decimal, ◌==◌, if◌then◌else◌}
+use Rattle.std.specs.Prelude.{ℕ, Option, unwrap_or, List, [], ◌∷◌, ◌++◌, codes, decimal, ◌==◌, if◌then◌else◌}
 use Rattle.task_check.specs.declared.fault.Cause.{Cause}
 use Rattle.task_check.specs.Causes.{code_of, word_of, names_future}
+use Rattle.column_input.specs.Causes.{code_of as column_code, word_of as column_word}
 use Rattle.ktask_cli.specs.declared.stop.InputFile.{InputFile}
+use Rattle.ktask_cli.specs.declared.stop.InputFile.TheVariants as file
 use Rattle.ktask_cli.specs.declared.stop.Stop.{Stop}
-use Rattle.ktask_cli.specs.declared.stop.Stop.TheVariants.{WordsRefused, CannotRead, TooLong, ProgramFault, CheckFault, WriteFault, WantOfMemory}
+use Rattle.ktask_cli.specs.declared.stop.Stop.TheVariants.{WordsRefused, CannotRead, TooLong, ProgramFault, CheckFault, ColumnsFault, WriteFault, WantOfMemory}
 use Rattle.ktask_cli.specs.declared.fetch_error.FetchError.{FetchError}
 use Rattle.ktask_cli.specs.declared.fetch_error.FetchError.TheVariants as fetch
 
@@ -12,6 +14,7 @@ abbrev pub status_of : Stop → ℕ
 status_of WordsRefused = 2
 status_of (ProgramFault cause line word) = 5
 status_of (CheckFault cause line name) = 5
+status_of (ColumnsFault cause row column) = 6
 status_of (CannotRead which) = 7
 status_of (TooLong which) = 7
 status_of WriteFault = 8
@@ -50,6 +53,8 @@ line_of name (ProgramFault cause line word) =
     ended (codes "ktask: program line " ++ decimal line ++ codes " word " ++ decimal word ++ codes " cause " ++ decimal cause ++ codes " " ++ cause_name cause)
 line_of name (CheckFault cause line named) =
     ended (codes "ktask: program line " ++ decimal line ++ codes " check " ++ decimal (code_of cause) ++ codes " " ++ word_of cause ++ codes " " ++ printed_name cause named)
+line_of name (ColumnsFault cause row column) =
+    ended (codes "ktask: columns row " ++ decimal row ++ codes " column " ++ decimal column ++ codes " cause " ++ decimal (column_code cause) ++ codes " " ++ column_word cause)
 line_of name (CannotRead which) = ended (codes "ktask: cannot read " ++ name)
 line_of name (TooLong which) = ended (codes "ktask: " ++ name ++ codes " is longer than " ++ decimal longest_file ++ codes " bytes")
 line_of name WriteFault = ended (codes "ktask: write fault")
@@ -60,3 +65,14 @@ abbrev pub fetch_stop : InputFile → FetchError → Stop
 fetch_stop which fetch.Failed = CannotRead which
 fetch_stop which fetch.TooLong = TooLong which
 fetch_stop which fetch.Memory = WantOfMemory
+
+-- the name of a file of a run
+abbrev pub file_named : List ℕ → Option (List ℕ) → InputFile → List ℕ
+file_named program columns file.Program = program
+file_named program columns file.Columns = unwrap_or columns []
+
+-- the name that is told with the reason why a run stops
+abbrev pub named_for : List ℕ → Option (List ℕ) → Stop → List ℕ
+named_for program columns (CannotRead which) = file_named program columns which
+named_for program columns (TooLong which) = file_named program columns which
+named_for program columns _ = program

@@ -1,4 +1,4 @@
-ghost use Rattle.std.specs.Prelude.{◌≡◌, map, option_map, string_bytes};
+ghost use Rattle.std.specs.Prelude.{◌≡◌, map, option_copied, option_map, string_bytes};
 ghost use Rattle.ktask_cli.specs.Choice.{choice_of, command_of};
 
 /// What the tool does with a program.
@@ -9,11 +9,12 @@ pub enum Command {
     Print,
 }
 
-/// What the words ask for: a command, and the name of the program's file.
+/// What the words ask for: a command, the name of the program's file, and for a run maybe that of a file of columns.
 #[derive(Clone, Copy, Debug)]
 pub struct Choice<'w> {
     pub command: Command,
     pub program: &'w str,
+    pub columns: Option<&'w str>,
 }
 
 fn command_of(word: &str) -> Option<Command>
@@ -29,14 +30,19 @@ fn command_of(word: &str) -> Option<Command>
 
 /// What the words ask for, and none where they are refused.
 pub fn choose(words: &[String]) -> Option<Choice<'_>>
-    ensures { option_map (λ choice. (choice.command, choice.program.now)) result ≡ choice_of (map string_bytes words.now) }
+    ensures { option_map (λ choice. (choice.command, choice.program.now, option_copied choice.columns)) result ≡ choice_of (map string_bytes words.now) }
 {
-    let [word, program] = words else {
-        return None;
-    };
-    let command = command_of(word.as_str())?;
-    Some(Choice {
-        command,
-        program: program.as_str(),
-    })
+    match words {
+        [word, program] => Some(Choice {
+            command: command_of(word.as_str())?,
+            program: program.as_str(),
+            columns: None,
+        }),
+        [word, program, columns] if word.as_str() == "run" => Some(Choice {
+            command: Command::Run,
+            program: program.as_str(),
+            columns: Some(columns.as_str()),
+        }),
+        _ => None,
+    }
 }

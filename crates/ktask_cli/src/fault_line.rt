@@ -1,9 +1,10 @@
 ghost use Rattle.std.specs.Prelude.{◌≡◌, ◌≤◌, ◌++◌, [], length, codes, decimal};
 ghost use Rattle.task_check.specs.Causes.{code_of, word_of};
-ghost use Rattle.ktask_cli.specs.declared.stop.Stop.TheVariants.{ProgramFault, CheckFault};
+ghost use Rattle.ktask_cli.specs.declared.stop.Stop.TheVariants.{ProgramFault, CheckFault, ColumnsFault};
 ghost use Rattle.ktask_cli.specs.Stop.{line_of, cause_name, printed_name};
 
 use crate::line::Line;
+use column_input::Cause as ColumnCause;
 use itoa::Buffer;
 use task_check::Cause;
 use task_syntax::Name;
@@ -78,6 +79,23 @@ pub(crate) fn check_line(cause: Cause, at: u32, name: &Name) -> Line
     push_cause(&mut line, cause);
     line.push(b" ");
     push_named(&mut line, cause, name);
+    line.push(b"\n");
+    line
+}
+
+/// The line that tells a fault of columns, with its line end.
+pub(crate) fn columns_line(cause: ColumnCause, row: u32, column: u32) -> Line
+    ensures { result ≡ line_of [] (ColumnsFault cause row column) }
+{
+    let mut line = Line::new();
+    line.push(b"ktask: columns row ");
+    line.push(Buffer::new().format(row).as_bytes());
+    line.push(b" column ");
+    line.push(Buffer::new().format(column).as_bytes());
+    line.push(b" cause ");
+    line.push(Buffer::new().format(cause.code()).as_bytes());
+    line.push(b" ");
+    line.push(cause.word().as_bytes());
     line.push(b"\n");
     line
 }

@@ -10,6 +10,7 @@ mod fault_line;
 pub mod fetch_error;
 pub mod fetch_file;
 pub mod file_shelf;
+mod input;
 mod line;
 pub mod memory_shelf;
 pub mod memory_sink;

@@ -43,7 +43,7 @@ fn print_sizes<S: Shelf, O: Sink, E: Sink>(
     out: &mut O,
     err: &mut E,
 ) -> u8
-    ensures { Reaches (sizes_under name.now) Prints name.now
+    ensures { Reaches (sizes_under name.now) Prints (λ stop. name.now)
         (shelf_seen S.holds S.last S.faults shelf.old) (shelf_seen S.holds S.last S.faults shelf.new)
         (answer result None (sink_seen O.taken O.faults out.old) (sink_seen O.taken O.faults out.new) (sink_seen E.taken E.faults err.old) (sink_seen E.taken E.faults err.new)) }
 {
@@ -84,7 +84,7 @@ fn print_program<S: Shelf, O: Sink, E: Sink>(
     out: &mut O,
     err: &mut E,
 ) -> u8
-    ensures { Reaches (text_under name.now) Prints name.now
+    ensures { Reaches (text_under name.now) Prints (λ stop. name.now)
         (shelf_seen S.holds S.last S.faults shelf.old) (shelf_seen S.holds S.last S.faults shelf.new)
         (answer result None (sink_seen O.taken O.faults out.old) (sink_seen O.taken O.faults out.new) (sink_seen E.taken E.faults err.old) (sink_seen E.taken E.faults err.new)) }
 {
@@ -110,12 +110,14 @@ fn do_plain<S: Shelf, O: Sink, E: Sink>(
             Choice {
                 command: Command::Check,
                 program,
+                ..
             },
         ) => print_sizes(alloc, program, shelf, out, err),
         Some(
             Choice {
                 command: Command::Print,
                 program,
+                ..
             },
         ) => print_program(alloc, program, shelf, out, err),
         _ => refuse(alloc, Stop::WordsRefused, "", err),

@@ -3,7 +3,7 @@ ghost use Rattle.ktask_cli.specs.declared.stop.Stop.TheVariants.{WantOfMemory};
 ghost use Rattle.ktask_cli.specs.Refusal.{Tells, Told};
 ghost use Rattle.ktask_cli.specs.Seen.{Offers, sink_seen};
 
-use crate::fault_line::{check_line, fault_line};
+use crate::fault_line::{check_line, columns_line, fault_line};
 use crate::fetch_file::FILE_LIMIT;
 use crate::put::put_all;
 use crate::sink::Sink;
@@ -35,6 +35,9 @@ pub fn refuse<E: Sink>(alloc: Global, stop: Stop, name: &str, err: &mut E) -> u8
         }
         Stop::CheckFault { cause, line, name } => {
             tell(status, check_line(cause, line, &name).as_bytes(), err)
+        }
+        Stop::ColumnsFault { cause, row, column } => {
+            tell(status, columns_line(cause, row, column).as_bytes(), err)
         }
         Stop::WordsRefused => tell(status, b"ktask: words refused, see ktask help\n", err),
         Stop::WriteFault => tell(status, WRITE_FAULT, err),

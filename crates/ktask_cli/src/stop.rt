@@ -1,5 +1,6 @@
 ghost use Rattle.std.specs.Prelude.{◌≡◌};
 
+use column_input::Cause as ColumnCause;
 use task_check::Cause;
 use task_syntax::Name;
 
@@ -7,6 +8,7 @@ use task_syntax::Name;
 #[derive(Clone, Copy, Debug, PartialEq, Eq)]
 pub enum InputFile {
     Program,
+    Columns,
 }
 
 /// Every reason for which a command ends without what it was asked for.
@@ -16,9 +18,23 @@ pub enum Stop {
     CannotRead(InputFile),
     TooLong(InputFile),
     /// The text is no program: the number of the cause, the line, and the word in it, both counted from 1.
-    ProgramFault { cause: u8, line: u32, word: u32 },
+    ProgramFault {
+        cause: u8,
+        line: u32,
+        word: u32,
+    },
     /// The program is not valid: the cause, the line, and the future or the kind that is named.
-    CheckFault { cause: Cause, line: u32, name: Name },
+    CheckFault {
+        cause: Cause,
+        line: u32,
+        name: Name,
+    },
+    /// The columns are refused: the cause, the row, and the column.
+    ColumnsFault {
+        cause: ColumnCause,
+        row: u32,
+        column: u32,
+    },
     WriteFault,
     WantOfMemory,
 }
@@ -33,6 +49,7 @@ impl Stop {
         match self {
             Stop::WordsRefused => 2,
             Stop::ProgramFault { .. } | Stop::CheckFault { .. } => 5,
+            Stop::ColumnsFault { .. } => 6,
             Stop::CannotRead(_) | Stop::TooLong(_) => 7,
             Stop::WriteFault => 8,
             Stop::WantOfMemory => 9,

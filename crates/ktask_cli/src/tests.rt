@@ -233,10 +233,15 @@ fn real_files_are_read(rt: HostRuntime) -> Result<(), Fail> {
 #[test]
 fn words_are_a_command_and_one_more(rt: HostRuntime) -> Result<(), Fail> {
     let rows = [
-        (["run", "a"].as_slice(), Some((Command::Run, "a"))),
-        (["check", "b"].as_slice(), Some((Command::Check, "b"))),
-        (["print", "c"].as_slice(), Some((Command::Print, "c"))),
+        (["run", "a"].as_slice(), Some((Command::Run, "a", None))),
+        (
+            ["run", "a", "b"].as_slice(),
+            Some((Command::Run, "a", Some("b"))),
+        ),
+        (["check", "b"].as_slice(), Some((Command::Check, "b", None))),
+        (["print", "c"].as_slice(), Some((Command::Print, "c", None))),
         (["run"].as_slice(), None),
+        (["run", "a", "b", "c"].as_slice(), None),
         (["check", "a", "a"].as_slice(), None),
         (["walk", "a"].as_slice(), None),
         ([].as_slice(), None),
@@ -247,9 +252,10 @@ fn words_are_a_command_and_one_more(rt: HostRuntime) -> Result<(), Fail> {
             words.push(text(rt.alloc(), word)?)?;
         }
         match (choose(&words), wanted) {
-            (Some(choice), Some((command, program))) => {
+            (Some(choice), Some((command, program, columns))) => {
                 assert_eq!(rt; choice.command, command);
                 assert_eq!(rt; choice.program, program);
+                assert_eq!(rt; choice.columns, columns);
             }
             (None, None) => {}
             _ => assert!(rt; false),

@@ -56,6 +56,16 @@ const CANONICAL: &str =
     "ktask 1\nkind one\nstate start\ndone 7\nend\nkind bad\nvar @a x\nstate s\nget x @a\n\
     done x\nend\nroot p one\n";
 
+const SUM: &str =
+    "ktask 1\nkind sum lo hi\n  var m x @a @b @g\nstate start\n  sub m hi lo\n  if m == 0 goto none\n\
+    if m == 1 goto one\n  div m m 2\n  add m lo m\n  spawn @a sum lo m\n  spawn @b sum m hi\n  all @g @a @b\n\
+    again both behind @g\n  label one\n  cell x price lo\n  done x\n  label none\n  done 0\n\
+    state both holds @a @b settled @a @b\n  get x @a\n  get m @b\n  add x x m\n  done x\nend\nkind main\n\
+    var n x @a\nstate start\n  rows n price\n  spawn @a sum 0 n\n  again out behind @a\n\
+    state out holds @a settled @a\n  get x @a\n  done x\nend\nroot total main\n";
+
+const CELL: &str = "ktask 1\nkind one\n  var x\nstate s\n  cell x a 0\n  done x\nend\nroot r one\n";
+
 const TWO_ROOTS: &str = "ktask 1\nkind one\nstate start\n  done 1\nend\nroot r one\nroot s one\n";
 
 // The status, and what `out` and `err` took.
@@ -223,7 +233,14 @@ fn words_files_and_sinks_are_refused(rt: HostRuntime) -> Result<(), Fail> {
     let rows = [
         ([].as_slice(), [].as_slice(), 2, words, 0),
         (["walk", "p"].as_slice(), [].as_slice(), 2, words, 0),
-        (["run", "p", "p"].as_slice(), [].as_slice(), 2, words, 0),
+        (
+            ["run", "p", "p", "p"].as_slice(),
+            [].as_slice(),
+            2,
+            words,
+            0,
+        ),
+        (["check", "p", "p"].as_slice(), [].as_slice(), 2, words, 0),
         (
             ["run", "x.kt"].as_slice(),
             [].as_slice(),
@@ -346,6 +363,88 @@ fn the_plain_tool_does_all_but_runs(rt: HostRuntime) -> Result<(), Fail> {
         let answer = plain_tool(rt.alloc(), &words, &mut shelf, &mut out, &mut err);
         assert_eq!(rt; answer, status);
         assert_eq!(rt; out.bytes.as_slice(), text.as_bytes());
+    }
+    Ok(())
+}
+
+// A shelf that has a program under the name p and columns under the name c, and fails in the calls listed.
+fn shelf_of_both(
+    alloc: Global,
+    program: &str,
+    columns: &str,
+    fail: &[u64],
+) -> Result<MemoryShelf, AllocError> {
+    let mut names = Vec::new(alloc);
+    names.push((string_of(alloc, "p")?, vec_of(alloc, program.as_bytes())?))?;
+    names.push((string_of(alloc, "c")?, vec_of(alloc, columns.as_bytes())?))?;
+    Ok(MemoryShelf::new(names, vec_of(alloc, fail)?))
+}
+
+#[test]
+fn programs_see_columns(rt: HostRuntime) -> Result<(), Fail> {
+    let prices = "id,price\n1,10\n2,20\n3,30\n4,40\n5,50\n";
+    let none: &[u64] = &[];
+    let rows = [
+        (SUM, "c", prices, none, 2, 0, "root total 150\n", ""),
+        (CELL, "c", "a\n", none, 2, 1, "root r trap norow\n", ""),
+        (
+            ONE,
+            "c",
+            "a,a\n",
+            none,
+            2,
+            6,
+            "",
+            "ktask: columns row 0 column 2 cause 2 TwiceNamed\n",
+        ),
+        (
+            SUM,
+            "c",
+            "a,b\n1,-2\n",
+            none,
+            2,
+            6,
+            "",
+            "ktask: columns row 1 column 2 cause 4 BadNumber\n",
+        ),
+        (
+            ONE,
+            "c",
+            "",
+            none,
+            2,
+            6,
+            "",
+            "ktask: columns row 0 column 0 cause 1 NoHeader\n",
+        ),
+        (ONE, "d", "a\n", none, 2, 7, "", "ktask: cannot read d\n"),
+        (ONE, "c", "a\n", &[2], 2, 7, "", "ktask: cannot read c\n"),
+        (ONE, "c", "a\n", &[1], 1, 7, "", "ktask: cannot read p\n"),
+        (
+            EARLY_GET,
+            "d",
+            "",
+            none,
+            1,
+            5,
+            "",
+            "ktask: program line 10 check 2 NotSettled @a\n",
+        ),
+    ];
+    for (program, file, columns, fail, calls, status, told, why) in rows {
+        let mut shelf = shelf_of_both(rt.alloc(), program, columns, fail)?;
+        let words = vec![in rt.alloc();
+            string_of(rt.alloc(), "run")?,
+            string_of(rt.alloc(), "p")?,
+            string_of(rt.alloc(), file)?,
+        ]?;
+        let mut out = sink(rt.alloc(), &[])?;
+        let mut err = sink(rt.alloc(), &[])?;
+        let outcome = run_tool(rt.alloc(), &words, &mut shelf, &mut out, &mut err);
+        assert_eq!(rt; outcome.status, status);
+        assert_eq!(rt; out.bytes.as_slice(), told.as_bytes());
+        assert_eq!(rt; err.bytes.as_slice(), why.as_bytes());
+        assert_eq!(rt; shelf.calls, calls);
     }
     Ok(())
 }

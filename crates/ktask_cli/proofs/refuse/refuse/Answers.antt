@@ -17,3 +17,6 @@ returns-in-CheckFault g c = rw c.in-CheckFault.is (told _ _ _ _ _ _ _ (c.status-
 
 pub returns-in-WordsRefused : goal.returns-in-WordsRefused
 returns-in-WordsRefused g c = rw c.in-WordsRefused.is (told _ _ _ _ _ _ _ (c.status-status.ensures ∙ ap status_of c.in-WordsRefused.is) refl c.tell-in-WordsRefused.ensures.status c.tell-in-WordsRefused.ensures.line)
+
+pub returns-in-ColumnsFault : goal.returns-in-ColumnsFault
+returns-in-ColumnsFault g c = rw c.in-ColumnsFault.is (told _ _ _ _ _ _ _ (c.status-status.ensures ∙ ap status_of c.in-ColumnsFault.is) (c.as_bytes-in-ColumnsFault.ensures ∙ c.columns_line.ensures) c.tell-in-ColumnsFault.ensures.status c.tell-in-ColumnsFault.ensures.line)

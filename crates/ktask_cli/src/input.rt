@@ -1,0 +1,79 @@
+ghost use Rattle.std.specs.Prelude.{◌≡◌, Some, option_copied};
+ghost use Rattle.std.specs.Result.{result_map_both};
+ghost use Rattle.ktask_cli.specs.Plan.{OrWants};
+ghost use Rattle.ktask_cli.specs.Ready.{columns_read, columns_under, input_under};
+ghost use Rattle.ktask_cli.specs.Seen.{shelf_seen};
+
+use crate::fetch_file::fetch_file;
+use crate::program::fetch_valid;
+use crate::shelf::Shelf;
+use crate::stop::{InputFile, Stop};
+use column_input::{ColumnError, read_columns};
+use std::alloc::Global;
+use task_syntax::{Checked, Columns};
+
+/// What is run: a valid program, and the columns that it sees.
+#[derive(Debug, Drop)]
+pub(crate) struct Input {
+    pub(crate) checked: Checked,
+    pub(crate) columns: Columns,
+}
+
+/// Reads the text of columns.
+fn read_cells(alloc: Global, text: &[u8]) -> Result<Columns, Stop>
+    ensures { OrWants (λ r. r ≡ columns_read text.now) result }
+{
+    match read_columns(alloc, text) {
+        Ok(columns) => Ok(columns),
+        Err(ColumnError::Fault { cause, row, column }) => {
+            Err(Stop::ColumnsFault { cause, row, column })
+        }
+        Err(ColumnError::Memory) => Err(Stop::WantOfMemory),
+    }
+}
+
+/// Fetches and reads the columns under a name.
+fn fetch_cells<S: Shelf>(alloc: Global, name: &str, shelf: &mut S) -> Result<Columns, Stop>
+    ensures { columns_under (Some name.now)
+        (shelf_seen S.holds S.last S.faults shelf.old) (shelf_seen S.holds S.last S.faults shelf.new) result }
+{
+    match fetch_file(alloc, shelf, InputFile::Columns, name) {
+        Ok(text) => read_cells(alloc, &text),
+        Err(stop) => Err(stop),
+    }
+}
+
+/// Fetches and reads the columns under a name, where one is given.
+fn fetch_columns<S: Shelf>(
+    alloc: Global,
+    name: Option<&str>,
+    shelf: &mut S,
+) -> Result<Columns, Stop>
+    ensures { columns_under (option_copied name.entry)
+        (shelf_seen S.holds S.last S.faults shelf.old) (shelf_seen S.holds S.last S.faults shelf.new) result }
+{
+    match name {
+        None => Ok(Columns::none(alloc)),
+        Some(name) => fetch_cells(alloc, name, shelf),
+    }
+}
+
+/// Fetches, reads and checks a program, and then fetches and reads its columns.
+pub(crate) fn fetch_input<S: Shelf>(
+    alloc: Global,
+    program: &str,
+    columns: Option<&str>,
+    shelf: &mut S,
+) -> Result<Input, Stop>
+    ensures { input_under program.now (option_copied columns.entry)
+        (shelf_seen S.holds S.last S.faults shelf.old) (shelf_seen S.holds S.last S.faults shelf.new)
+        (result_map_both (λ input. (input.checked, input.columns)) (λ stop. stop) result) }
+{
+    match fetch_valid(alloc, program, shelf) {
+        Ok(checked) => match fetch_columns(alloc, columns, shelf) {
+            Ok(columns) => Ok(Input { checked, columns }),
+            Err(stop) => Err(stop),
+        },
+        Err(stop) => Err(stop),
+    }
+}
