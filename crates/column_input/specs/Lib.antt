@@ -6,3 +6,6 @@ pub mod Rows
 pub mod Table
 pub mod Faults
 pub mod Laws
+pub mod Count
+pub mod Fetch
+pub mod MemoryShelf

@@ -1,7 +1,7 @@
 //! `ktask`: runs a task program and prints how each root ended, checks one, or prints its canonical text.
 #![tactic(auto)]
 
-use ktask_cli::file_shelf::FileShelf;
+use column_input::FileShelf;
 use ktask_cli::out_sink::OutSink;
 use ktask_cli::refuse::refuse;
 use ktask_cli::run_tool;

@@ -9,7 +9,7 @@ use Rattle.task_text.specs.declared.fault.Fault.{Fault}
 use Rattle.task_reader.specs.Read.{program_in}
 use Rattle.task_writer.specs.Text.{text_of}
 use Rattle.ktask_cli.specs.declared.choice.Command.TheVariants.{Run, Check, Print}
-use Rattle.ktask_cli.specs.declared.fetch_error.FetchError.{FetchError}
+use Rattle.column_input.specs.declared.fetch_error.FetchError.{FetchError}
 use Rattle.ktask_cli.specs.declared.stop.InputFile.TheVariants as file
 use Rattle.ktask_cli.specs.declared.stop.Stop.{Stop}
 use Rattle.ktask_cli.specs.declared.stop.Stop.TheVariants as stop

@@ -1,7 +1,7 @@
 -- Parts of a plan, one behind another.
 use Rattle.std.proofs.Common.{◌≡◌, ℕ, List, Result, Ok, Err, IfOk, IfErr, inl, inr, refl, sym, subst}
 use Rattle.std.specs.Result.{result_map_both}
-use Rattle.ktask_cli.specs.declared.fetch_error.FetchError.{FetchError}
+use Rattle.column_input.specs.declared.fetch_error.FetchError.{FetchError}
 use Rattle.ktask_cli.specs.declared.stop.InputFile.{InputFile}
 use Rattle.ktask_cli.specs.declared.stop.Stop.{Stop}
 use Rattle.ktask_cli.specs.declared.stop.Stop.TheVariants.{WantOfMemory}

@@ -7,13 +7,13 @@ use Rattle.task_syntax.specs.declared.program.Program.{Program}
 use Rattle.plain_engine.specs.RunEnd.{RunEnd}
 use Rattle.ktask_cli.specs.declared.choice.Command.{Command}
 use Rattle.ktask_cli.specs.declared.choice.Command.TheVariants.{Run, Check, Print}
-use Rattle.ktask_cli.specs.declared.fetch_error.FetchError.{FetchError}
-use Rattle.ktask_cli.specs.declared.fetch_error.FetchError.TheVariants.{Failed, TooLong, Memory}
+use Rattle.column_input.specs.declared.fetch_error.FetchError.{FetchError}
+use Rattle.column_input.specs.declared.fetch_error.FetchError.TheVariants.{Failed, TooLong, Memory}
 use Rattle.ktask_cli.specs.declared.stop.Stop.{Stop}
 use Rattle.ktask_cli.specs.declared.stop.Stop.TheVariants as stop
 use Rattle.ktask_cli.specs.Choice.{Choice}
-use Rattle.ktask_cli.specs.Count.{Rose}
-use Rattle.ktask_cli.specs.Fetch.{FailedOnlyByFault}
+use Rattle.column_input.specs.Count.{Rose}
+use Rattle.column_input.specs.Fetch.{FailedOnlyByFault}
 use Rattle.ktask_cli.specs.Outcome.{Answer, Writes, Runs, Prints, Stops, Reaches, Does}
 use Rattle.ktask_cli.specs.Plan.{Plan}
 use Rattle.ktask_cli.specs.Ready.{input_under, sizes_under, text_under}

@@ -1,8 +1,5 @@
 pub mod Choice
-pub mod Count
 pub mod Fault
-pub mod Fetch
-pub mod MemoryShelf
 pub mod MemorySink
 pub mod Plan
 pub mod Refusal

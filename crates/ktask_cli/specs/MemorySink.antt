@@ -2,7 +2,7 @@
 use Rattle.std.specs.Prelude.{◌≡◌, ℕ, ◌+◌, ◌<◌, ◌⊎◌, List, [], length, Contains, Result, MatchResult, Vec}
 use Rattle.std.specs.declared.alloc.Global.{Global}
 use Rattle.ktask_cli.specs.declared.memory_sink.MemorySink.{MemorySink}
-use Rattle.ktask_cli.specs.Count.{one_more}
+use Rattle.column_input.specs.Count.{one_more}
 
 -- nothing was taken and no call was made
 pub record IsFresh (sink : MemorySink) (most : ℕ) (failing : Vec ℕ Global) : Type 0 where

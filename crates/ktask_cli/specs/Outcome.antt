@@ -9,7 +9,7 @@ use Rattle.ktask_cli.specs.declared.choice.Command.TheVariants.{Run, Check, Prin
 use Rattle.ktask_cli.specs.declared.stop.Stop.{Stop}
 use Rattle.ktask_cli.specs.declared.stop.Stop.TheVariants.{WordsRefused, WriteFault}
 use Rattle.ktask_cli.specs.Choice.{Choice}
-use Rattle.ktask_cli.specs.Count.{Rose}
+use Rattle.column_input.specs.Count.{Rose}
 use Rattle.ktask_cli.specs.Plan.{Plan}
 use Rattle.ktask_cli.specs.Ready.{input_under, sizes_under, text_under}
 use Rattle.ktask_cli.specs.Refusal.{Tells, Told}

@@ -1,7 +1,7 @@
 -- The order in which a command fetches its files and meets its refusals.
 use Rattle.std.specs.Prelude.{◌≡◌, ℕ, ◌⊎◌, List, Result, Err, MatchResult}
 use Rattle.std.specs.Result.{result_map_both}
-use Rattle.ktask_cli.specs.declared.fetch_error.FetchError.{FetchError}
+use Rattle.column_input.specs.declared.fetch_error.FetchError.{FetchError}
 use Rattle.ktask_cli.specs.declared.stop.InputFile.{InputFile}
 use Rattle.ktask_cli.specs.declared.stop.Stop.{Stop}
 use Rattle.ktask_cli.specs.declared.stop.Stop.TheVariants.{WantOfMemory}

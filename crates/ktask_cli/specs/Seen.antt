@@ -2,10 +2,10 @@
 use Rattle.std.specs.Prelude.{◌≡◌, ℕ, ◌<◌, ◌≤◌, ◌⊎◌, List, length, Option, Some, Result, IfOk, IfSome, IsErrOf}
 use Rattle.std.specs.Result.{result_map_both}
 use Rattle.std.specs.Io.KnownBytes.{Appends}
-use Rattle.ktask_cli.specs.declared.fetch_error.FetchError.{FetchError}
-use Rattle.ktask_cli.specs.declared.fetch_error.FetchError.TheVariants.{TooLong}
-use Rattle.ktask_cli.specs.Count.{Rose}
-use Rattle.ktask_cli.specs.Fetch.{FailedOnlyByFault}
+use Rattle.column_input.specs.declared.fetch_error.FetchError.{FetchError}
+use Rattle.column_input.specs.declared.fetch_error.FetchError.TheVariants.{TooLong}
+use Rattle.column_input.specs.Count.{Rose}
+use Rattle.column_input.specs.Fetch.{FailedOnlyByFault}
 use Rattle.ktask_cli.specs.Sink.{AppendsPrefix}
 use Rattle.ktask_cli.specs.Stop.{longest_file}
 

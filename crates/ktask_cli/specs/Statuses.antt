@@ -14,9 +14,9 @@ use Rattle.plain_engine.specs.declared.end.RootEnd.{RootEnd}
 use Rattle.plain_engine.specs.declared.end.RootEnd.TheVariants.{Value, Cut}
 use Rattle.ktask_cli.specs.declared.choice.Command.{Command}
 use Rattle.ktask_cli.specs.declared.choice.Command.TheVariants.{Run, Check, Print}
-use Rattle.ktask_cli.specs.declared.fetch_error.FetchError.TheVariants.{Failed, TooLong}
+use Rattle.column_input.specs.declared.fetch_error.FetchError.TheVariants.{Failed, TooLong}
 use Rattle.ktask_cli.specs.Choice.{Choice}
-use Rattle.ktask_cli.specs.Count.{Rose}
+use Rattle.column_input.specs.Count.{Rose}
 use Rattle.ktask_cli.specs.Outcome.{Answer}
 use Rattle.ktask_cli.specs.Report.{status_of_ends, is_trap, is_limit}
 use Rattle.ktask_cli.specs.Seen.{ShelfSeen}

@@ -4,9 +4,8 @@ ghost use Rattle.ktask_cli.specs.Plan.{content_of};
 ghost use Rattle.ktask_cli.specs.Seen.{shelf_seen};
 ghost use Rattle.ktask_cli.specs.Stop.{longest_file};
 
-use crate::fetch_error::FetchError;
-use crate::shelf::Shelf;
 use crate::stop::{InputFile, Stop};
+use column_input::{FetchError, Shelf};
 use std::alloc::Global;
 
 /// The greatest length of a file that is read.

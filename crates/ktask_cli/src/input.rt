@@ -6,9 +6,8 @@ ghost use Rattle.ktask_cli.specs.Seen.{shelf_seen};
 
 use crate::fetch_file::fetch_file;
 use crate::program::fetch_valid;
-use crate::shelf::Shelf;
 use crate::stop::{InputFile, Stop};
-use column_input::{ColumnError, read_columns};
+use column_input::{ColumnError, Shelf, read_columns};
 use std::alloc::Global;
 use task_syntax::{Checked, Columns};
 

@@ -4,26 +4,20 @@
 #[cfg(test)]
 mod check_tests;
 pub mod choice;
-mod count;
 pub mod error;
 mod fault_line;
-pub mod fetch_error;
 pub mod fetch_file;
-pub mod file_shelf;
 mod input;
 mod line;
-pub mod memory_shelf;
 pub mod memory_sink;
 pub mod out_sink;
 pub mod outcome;
 mod plain;
 mod program;
 pub mod put;
-mod read_up_to;
 pub mod refuse;
 pub mod report;
 mod root_line;
-pub mod shelf;
 pub mod sink;
 pub mod stop;
 #[cfg(test)]

@@ -2,11 +2,11 @@ ghost use Rattle.std.specs.Prelude.{◌≡◌, ℕ, ◌+◌, ◌<◌, ◌≤◌,
 ghost use Rattle.std.specs.Io.{WritesAtMost};
 ghost use Rattle.std.specs.Io.KnownBytes.{WriteAppends};
 ghost use Rattle.ktask_cli.specs.Fault.{ErrOnlyByFault};
-ghost use Rattle.ktask_cli.specs.Count.{one_more};
+ghost use Rattle.column_input.specs.Count.{one_more};
 
-use crate::count::{is_listed, one_more};
 use crate::error::Failed;
 use crate::sink::Sink;
+use column_input::{is_listed, one_more};
 use std::alloc::Global;
 use task_syntax::Memory;
 

@@ -1,8 +1,8 @@
 ghost use Rattle.std.specs.Prelude.{◌≡◌, ℕ, ◌<◌, length, IfOk};
 
-use crate::count::one_more;
 use crate::error::Failed;
 use crate::sink::Sink;
+use column_input::one_more;
 use std::io::Write;
 
 /// Any writer as a sink, which counts the writes that failed.

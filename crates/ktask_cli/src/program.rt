@@ -6,8 +6,8 @@ ghost use Rattle.ktask_cli.specs.Seen.{shelf_seen};
 ghost use Rattle.ktask_cli.specs.Stop.{longest_file};
 
 use crate::fetch_file::fetch_file;
-use crate::shelf::Shelf;
 use crate::stop::{InputFile, Stop};
+use column_input::Shelf;
 use std::alloc::Global;
 use task_check::{CheckError, check};
 use task_reader::{ReadError, read_program};

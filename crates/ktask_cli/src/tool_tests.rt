@@ -1,8 +1,8 @@
-use crate::memory_shelf::MemoryShelf;
 use crate::memory_sink::MemorySink;
 use crate::out_sink::OutSink;
 use crate::tests::ByteWriter;
 use crate::{plain_tool, run_tool};
+use column_input::MemoryShelf;
 use std::alloc::{AllocError, Global};
 use std::test::Fail;
 

@@ -1,5 +1,5 @@
 ghost use Rattle.std.specs.Prelude.{◌≡◌, ℕ, ◌<◌, ◌≤◌, [], Some, None, length, OnOk, OnErr, IfSome, IsErrOf, option_map};
-ghost use Rattle.ktask_cli.specs.Fetch.{FailedOnlyByFault};
+ghost use Rattle.column_input.specs.Fetch.{FailedOnlyByFault};
 
 use crate::count::{faults_after, is_listed, one_more};
 use crate::fetch_error::FetchError;
@@ -16,7 +16,7 @@ pub struct MemoryShelf {
 }
 
 impl MemoryShelf {
-    ghost use Rattle.ktask_cli.specs.MemoryShelf.{Answers, bytes_under};
+    ghost use Rattle.column_input.specs.MemoryShelf.{Answers, bytes_under};
 
     /// A shelf with these contents, of which no call was made yet.
     pub fn new(names: Vec<(String, Vec<u8>)>, fail: Vec<u64>) -> MemoryShelf
@@ -64,7 +64,7 @@ impl MemoryShelf {
 }
 
 impl Shelf for MemoryShelf {
-    ghost use Rattle.ktask_cli.specs.MemoryShelf.{Answers, Records, bytes_under};
+    ghost use Rattle.column_input.specs.MemoryShelf.{Answers, Records, bytes_under};
 
     ghost holds = { bytes_under };
 

@@ -1,5 +1,5 @@
 ghost use Rattle.std.specs.Prelude.{◌≡◌, ◌<◌, ◌≤◌, [], length, OnOk, OnErr, IfSome, IsErrOf};
-ghost use Rattle.ktask_cli.specs.Fetch.{FailedOnlyByFault};
+ghost use Rattle.column_input.specs.Fetch.{FailedOnlyByFault};
 
 use crate::count::one_more;
 use crate::fetch_error::FetchError;

@@ -1,11 +1,11 @@
 -- The shelf in memory: how it is made, and what each call answers and leaves.
 use Rattle.std.specs.Prelude.{◌≡◌, ℕ, ◌<◌, ◌≤◌, ◌⊎◌, List, length, Contains, Result, Ok, Err, Option, Some, IsNone, IsSomeAnd, String, Vec, string_bytes, bytes_eq, option_map, find}
 use Rattle.std.specs.declared.alloc.Global.{Global}
-use Rattle.ktask_cli.specs.declared.fetch_error.FetchError.{FetchError}
-use Rattle.ktask_cli.specs.declared.fetch_error.FetchError.TheVariants.{Failed, TooLong, Memory}
-use Rattle.ktask_cli.specs.declared.memory_shelf.MemoryShelf.{MemoryShelf}
-use Rattle.ktask_cli.specs.Count.{one_more}
-use Rattle.ktask_cli.specs.Fetch.{faults_after}
+use Rattle.column_input.specs.declared.fetch_error.FetchError.{FetchError}
+use Rattle.column_input.specs.declared.fetch_error.FetchError.TheVariants.{Failed, TooLong, Memory}
+use Rattle.column_input.specs.declared.memory_shelf.MemoryShelf.{MemoryShelf}
+use Rattle.column_input.specs.Count.{one_more}
+use Rattle.column_input.specs.Fetch.{faults_after}
 
 -- the content of the first entry of this name
 abbrev pub first_under : List (String Global × Vec ℕ Global) → List ℕ → Option (List ℕ)

@@ -1,6 +1,6 @@
 ghost use Rattle.std.specs.Prelude.{◌≡◌, ℕ, ◌<◌, ◌≤◌, List, [], Option, Some, Result, length, OnOk, OnErr, IfSome, IsErrOf};
-ghost use Rattle.ktask_cli.specs.declared.fetch_error.FetchError.{FetchError};
-ghost use Rattle.ktask_cli.specs.Fetch.{FailedOnlyByFault};
+ghost use Rattle.column_input.specs.declared.fetch_error.FetchError.{FetchError};
+ghost use Rattle.column_input.specs.Fetch.{FailedOnlyByFault};
 
 use crate::fetch_error::FetchError;
 

@@ -1,18 +1,18 @@
 ghost use Rattle.std.specs.Prelude.{◌≡◌, ◌↔◌, IsTrue, Contains};
-ghost use Rattle.ktask_cli.specs.Count.{one_more};
-ghost use Rattle.ktask_cli.specs.Fetch.{faults_after};
+ghost use Rattle.column_input.specs.Count.{one_more};
+ghost use Rattle.column_input.specs.Fetch.{faults_after};
 
 use crate::fetch_error::FetchError;
 
 /// One more, where a count at its greatest value stands still.
-pub(crate) fn one_more(count: u64) -> u64
+pub fn one_more(count: u64) -> u64
     ensures { result ≡ one_more count }
 {
     count.saturating_add(1)
 }
 
 /// Whether the call of this number is in the list of those that are to fail.
-pub(crate) fn is_listed(calls: &[u64], call: u64) -> bool
+pub fn is_listed(calls: &[u64], call: u64) -> bool
     ensures { IsTrue result ↔ Contains calls.now call }
 {
     calls.contains(&call)
