@@ -1,5 +1,4 @@
 ghost use Rattle.std.specs.Prelude.{IfOk};
-ghost use Rattle.task_syntax.specs.Columns.{no_columns};
 ghost use Rattle.task_syntax.specs.Form.{IsWellFormed};
 ghost use Rattle.task_syntax.specs.Valid.{IsValid};
 ghost use Rattle.plain_engine.specs.SoundEnd.{IsSoundEnd};
@@ -42,12 +41,5 @@ impl PlainRun {
         ensures { IfOk result (IsSoundEnd checked.now columns.now) }
     {
         Ok(run_roots(alloc, checked.program(), columns)?)
-    }
-
-    /// Runs a program without columns.
-    pub fn first(alloc: Global, checked: &Checked) -> Result<PlainEnd, Memory>
-        ensures { IfOk result (IsSoundEnd checked.now no_columns) }
-    {
-        PlainRun::run(alloc, checked, &Columns::none(alloc))
     }
 }

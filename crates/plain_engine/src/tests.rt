@@ -207,12 +207,12 @@ fn pass(alloc: Global, n: u64) -> Result<Program, AllocError>
 
 fn run_less_one(alloc: Global, n: u64) -> Result<PlainEnd, Memory> {
     let program = less_one(alloc, n)?;
-    PlainRun::first(alloc, &Checked::seal(program))
+    PlainRun::run(alloc, &Checked::seal(program), &Columns::none(alloc))
 }
 
 fn run_dive(alloc: Global, n: u64) -> Result<PlainEnd, Memory> {
     let program = dive(alloc, n)?;
-    PlainRun::first(alloc, &Checked::seal(program))
+    PlainRun::run(alloc, &Checked::seal(program), &Columns::none(alloc))
 }
 
 fn run_pass(alloc: Global, n: u64) -> Result<PlainEnd, Memory> {
