@@ -247,12 +247,12 @@ six_where_read : (command : Command) (name file : List ℕ) (was : ShelfSeen) (a
 six_where_read command name file was a has = if_some_all (was.holds name) (λ program. SuitsText command program → IfSome (was.holds file) (λ held. ¬ HasColumns held → IsOrWants 6 a))
     (λ program suits. if_some (was.holds file) HasColumns (λ held. ¬ HasColumns held → IsOrWants 6 a) (λ held got not. absurd (not got)) has)
 
-six_refused : (command : Command) (name : List ℕ) (columns : Option (List ℕ)) (was is : ShelfSeen) (a : Answer) → a.status ≡ 6 → IsFetched is → (file text : List ℕ) → columns ≡ Some file → Tells was file text → ¬ HasColumns text
+six_refused : (command : Command) (name : List ℕ) (columns : Option (List ℕ)) (was is : ShelfSeen) (a : Answer) → a.status ≡ 6 → IsFetched is → command ≡ Run → Took (Suits command) name was → (file text : List ℕ) → columns ≡ Some file → Tells was file text → ¬ HasColumns text
     → SixForColumns (Some (command, name, columns)) was is a
-six_refused command name None was is a status told file text named tells not = cc
-six_refused command name (Some other_file) was is a status told file text named tells not =
+six_refused command name None was is a status told run took file text named tells not = cc
+six_refused command name (Some other_file) was is a status told run took file text named tells not =
     let e : file ≡ other_file = cc in
-    ((λ h. (told, (text, subst (λ f. IfSome (was.holds f) (λ held. text ≡ held)) e tells, not))), (λ run last. six_where command name other_file was a (inl status)))
+    ((λ h. (run, told, (took.text, took.tells, took.suits), (text, subst (λ f. IfSome (was.holds f) (λ held. text ≡ held)) e tells, not))), (λ run last. six_where command name other_file was a (inl status)))
 
 six : (command : Command) (name : List ℕ) (columns : Option (List ℕ)) (was is : ShelfSeen) (a : Answer) → Came command name columns was is a → SixForColumns (Some (command, name, columns)) was is a
 six command name columns was is a (ran run took told e finished shows by_roots err had) = no_six command name columns was is a (λ h. shown_not e a.status 6 shows h refl refl refl) (λ r last file named. six_where_read command name file was a (had file named))
@@ -262,7 +262,7 @@ six command name columns was is a (unprinted plain took told none status fault) 
 six command name columns was is a (wanting q status) = no_six command name columns was is a (λ h. other a.status 9 6 status h refl) (λ r last file named. six_where command name file was a (inr status))
 six command name columns was is a (refused q status lost why) = no_six command name columns was is a (λ h. other a.status 7 6 status h refl) (λ r last file named. absurd (not_refused is last lost))
 six command name columns was is a (unfit q status told text tells not) = no_six command name columns was is a (λ h. other a.status 5 6 status h refl) (λ r last file named. six_where_unsuited command name file text was a tells not)
-six command name columns was is a (unfit_columns q status told run took file text named tells not) = six_refused command name columns was is a status told file text named tells not
+six command name columns was is a (unfit_columns q status told run took file text named tells not) = six_refused command name columns was is a status told run took file text named tells not
 
 seven : (command : Command) (name : List ℕ) (columns : Option (List ℕ)) (was is : ShelfSeen) (a : Answer) → Came command name columns was is a → SevenForFetch (Some (command, name, columns)) was is a
 seven command name columns was is a (ran run took told e finished shows by_roots err had) = ((λ h. shown_not e a.status 7 shows h refl refl refl), (λ r. absurd (not_refused is told r)))

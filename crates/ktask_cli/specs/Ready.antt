@@ -1,4 +1,4 @@
--- What the program of a file comes to, for each command.
+-- What the files of a command come to: a program, columns, or a reason to stop.
 use Rattle.std.specs.Prelude.{◌≡◌, ℕ, ◌++◌, codes, decimal, length, Option, Some, None, List, Result, Ok, Err}
 use Rattle.task_syntax.specs.Columns.{no_columns}
 use Rattle.task_syntax.specs.Valid.{IsValid}

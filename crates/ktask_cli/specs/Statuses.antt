@@ -58,19 +58,21 @@ FiveForText (Some (command, name, columns)) was is a =
     (a.status ≡ 5 → IsFetched is × ((text : List ℕ) × IfSome (was.holds name) (λ held. text ≡ held) × ¬ SuitsText command text))
     × (IsFetched is → IfSome (was.holds name) (λ held. ¬ SuitsText command held → IsOrWants 5 a))
 
--- 6 exactly where the columns were fetched, all before was accepted, and they are refused
+-- 6 exactly where a run's program suits it, the columns were fetched, and they are refused
 abbrev pub SixForColumns : Option Choice → ShelfSeen → ShelfSeen → Answer → Type 0
 SixForColumns None was is a = ¬ (a.status ≡ 6)
 SixForColumns (Some (command, name, None)) was is a = ¬ (a.status ≡ 6)
 SixForColumns (Some (command, name, Some columns)) was is a =
-    (a.status ≡ 6 → IsFetched is × ((text : List ℕ) × IfSome (was.holds columns) (λ held. text ≡ held) × ¬ HasColumns text))
+    (a.status ≡ 6 → (command ≡ Run) × IsFetched is
+    × ((program : List ℕ) × IfSome (was.holds name) (λ held. program ≡ held) × SuitsText command program)
+    × ((text : List ℕ) × IfSome (was.holds columns) (λ held. text ≡ held) × ¬ HasColumns text))
     × (command ≡ Run → IsFetched is → IfSome (was.holds name) (λ program. SuitsText command program → IfSome (was.holds columns) (λ held. ¬ HasColumns held → IsOrWants 6 a)))
 
 -- the shelf holds a longer file than is read under this name, where it tells what it holds
 abbrev pub IsLong : ShelfSeen → List ℕ → Type 0
 IsLong shelf name = IfSome (shelf.holds name) (λ held. longest_file < length held)
 
--- 7 exactly where a fetch was refused: the shelf had a fault, or the file is too long
+-- 7 exactly where a fetch was refused: the shelf had a fault, or a file that is named is too long; which of them, `Does` says
 abbrev pub SevenForFetch : Option Choice → ShelfSeen → ShelfSeen → Answer → Type 0
 SevenForFetch None was is a = ¬ (a.status ≡ 7)
 SevenForFetch (Some (command, name, columns)) was is a =

@@ -136,9 +136,9 @@ fn do_command<S: Shelf, O: Sink, E: Sink>(
     }
 }
 
-/// Does what the words ask for. `run PROGRAM [COLUMNS]` fetches the program from the shelf, reads it and checks it, does
-/// so with the columns, where a file of them is named, runs the program, and writes how each root ended to `out`;
-/// `plain_tool` does the other commands. Where it stops before, one line on `err` says why.
+/// Does what the words ask for. `run PROGRAM [COLUMNS]` fetches the program from the shelf, reads it and checks it, then
+/// fetches and reads the columns, where a file of them is named, runs the program, and writes how each root ended to
+/// `out`; `plain_tool` does the other commands. Where it stops before, one line on `err` says why.
 ///
 /// The exit status is 0 where the command is done, and for a run each root is a number, 1 where some root is a trap, 4
 /// where some root was cut by the limit on activations, 2 for words that are refused, 5 for a program that is, 6 for
