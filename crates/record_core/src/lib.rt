@@ -1,10 +1,16 @@
-//! Sums, for whoever counts the records of a run: over the members of a list, and over the numbers below a bound.
+//! The rows that a run leaves behind, the trait through which an ended run is read, and sums for whoever counts the
+//! records of a run.
 //!
-//! `specs/Sums.antt` defines them. The functions here do nothing: the contract of each is a law.
+//! `specs/Journal.antt` says what is written and in which order, `specs/EndSound.antt` which ended run is sound.
+//! `specs/Sums.antt` defines the sums; the functions on them do nothing, and the contract of each is a law.
 #![tactic(auto)]
 
+mod ended;
+mod rows;
 mod sums_below;
 mod totals;
 
+pub use ended::Ended;
+pub use rows::{ActivationRow, Cause, CutFrom, CutTag, RootEnd, TaskRow};
 pub use sums_below::{sums_below_change, sums_below_compare};
 pub use totals::{totals_change, totals_compare, totals_join};
