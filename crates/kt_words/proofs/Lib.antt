@@ -1,4 +1,5 @@
 pub mod Powers
+pub mod ClassFacts
 pub mod GeometryFacts
 pub mod SuperWordFacts
 pub mod StateWordFacts

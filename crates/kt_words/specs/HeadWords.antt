@@ -33,6 +33,10 @@ link_of word = word % 1048576
 abbrev pub length_of : ℕ → ℕ
 length_of word = word / 1048576
 
+-- the value fits, and this is its word
+abbrev pub HasHeadWord : ℕ → HeadWord → Type 0
+HasHeadWord word value = FitsHeadWord value × (packed_head value ≡ word)
+
 -- the value has the numbers of the word
 abbrev pub ReadsHead : ℕ → HeadWord → Type 0
 ReadsHead word Closed = word ≡ closed_word

@@ -3,7 +3,10 @@ pub mod Capacity
 pub mod SuperWords
 pub mod StateWords
 pub mod HeadWords
+pub mod RootWords
+pub mod ClassLaws
 pub mod SuperWordLaws
 pub mod StateWordLaws
 pub mod HeadWordLaws
+pub mod RootWordLaws
 pub mod GeometryLaws

@@ -1,6 +1,6 @@
 -- A unit's state word: its phase in the lowest 3 bits, its priority in 2, its tag in 3, and above these the number of
 -- its activation, in 24.
-use Rattle.std.specs.Prelude.{ℕ, ◌+◌, ◌*◌, ◌/◌, ◌%◌, ◌^◌, ◌<◌, ◌≤◌}
+use Rattle.std.specs.Prelude.{◌≡◌, ℕ, ◌+◌, ◌*◌, ◌/◌, ◌%◌, ◌^◌, ◌<◌, ◌≤◌}
 use Rattle.kt_words.specs.declared.phase.Phase.{Phase}
 use Rattle.kt_words.specs.declared.phase.Phase.TheVariants.{Free, Made, Waiting, Ready, Running, Complete}
 use Rattle.kt_words.specs.declared.tag.Tag.{Tag}
@@ -49,6 +49,17 @@ tag_of word = word / 32 % 8
 
 abbrev pub number_of : ℕ → ℕ
 number_of word = word / 256
+
+-- the value fits, and this is its word
+abbrev pub HasStateWord : ℕ → StateWord → Type 0
+HasStateWord word value = FitsStateWord value × (packed_state value ≡ word)
+
+-- the value has the numbers of the word
+pub record ReadsState (word : ℕ) (value : StateWord) : Type 0 where
+  pub phase_is : phase_code value.phase ≡ phase_of word
+  pub priority_is : value.priority ≡ priority_of word
+  pub tag_is : tag_code value.tag ≡ tag_of word
+  pub number_is : value.number ≡ number_of word
 
 -- the words of which each number is in its range
 pub record IsStateWord (word : ℕ) : Type 0 where

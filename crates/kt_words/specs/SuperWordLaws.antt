@@ -1,6 +1,6 @@
 -- Laws of the words of superblocks, as numbers.
 use Rattle.std.specs.Prelude.{◌≡◌, ◌↔◌, ℕ, ◌+◌, ◌-◌, ◌*◌, ◌^◌, ◌<◌}
-use Rattle.kt_words.specs.SuperWords.{FitsSuperWord, IsSuperWord, super_word, packed_super, most_ever, risen, count_of, class_of, ever_of}
+use Rattle.kt_words.specs.SuperWords.{FitsSuperWord, IsSuperWord, super_word, packed_super, most_ever, risen, reserved_word, count_of, class_of, ever_of}
 use Rattle.kt_words.specs.declared.super_word.SuperWord.{SuperWord}
 
 -- the word has these numbers
@@ -45,10 +45,7 @@ EverRises = (word : ℕ) → SuperWordSays (word + 1048576) (count_of word) (cla
 abbrev pub ClassChanges : Type 0
 ClassChanges = (word class : ℕ) → class < 16 → SuperWordSays (word - 65536 * class_of word + 65536 * class) (count_of word) class (ever_of word)
 
--- a reservation: one more, of this class, and the last number risen; the word still has 64 bits
-abbrev pub reserved_word : ℕ → ℕ → ℕ
-reserved_word word class = super_word (count_of word + 1) class (risen (ever_of word))
-
+-- the word after a reservation has these numbers, and still 64 bits
 abbrev pub WordReserves : Type 0
 WordReserves = (word class : ℕ) → count_of word < 65535 → class < 16
     → SuperWordSays (reserved_word word class) (count_of word + 1) class (risen (ever_of word)) × (reserved_word word class < 2 ^ 64)

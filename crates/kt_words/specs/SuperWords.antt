@@ -1,5 +1,5 @@
 -- A superblock's word: its count in the lowest 16 bits, its class in 4, and above these how often it was reserved.
-use Rattle.std.specs.Prelude.{ℕ, ◌+◌, ◌*◌, ◌/◌, ◌%◌, ◌^◌, ◌<◌, ◌≤◌, min}
+use Rattle.std.specs.Prelude.{◌≡◌, ℕ, ◌+◌, ◌*◌, ◌/◌, ◌%◌, ◌^◌, ◌<◌, ◌≤◌, min}
 use Rattle.kt_words.specs.declared.super_word.SuperWord.{SuperWord}
 
 -- the numbers that a word has room for
@@ -33,6 +33,20 @@ class_of word = word / 65536 % 16
 
 abbrev pub ever_of : ℕ → ℕ
 ever_of word = word / 1048576
+
+-- a reservation: one more, of this class, and the last number risen
+abbrev pub reserved_word : ℕ → ℕ → ℕ
+reserved_word word class = super_word (count_of word + 1) class (risen (ever_of word))
+
+-- the value fits, and this is its word
+abbrev pub HasSuperWord : ℕ → SuperWord → Type 0
+HasSuperWord word value = FitsSuperWord value × (packed_super value ≡ word)
+
+-- the value has the numbers of the word
+pub record ReadsSuper (word : ℕ) (value : SuperWord) : Type 0 where
+  pub count_is : value.count ≡ count_of word
+  pub class_is : value.class ≡ class_of word
+  pub ever_is : value.ever ≡ ever_of word
 
 -- the words of a superblock: the class is in its range; the two other numbers of a word of 64 bits always are
 abbrev pub IsSuperWord : ℕ → Type 0

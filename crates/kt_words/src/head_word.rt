@@ -1,5 +1,5 @@
 ghost use Rattle.std.specs.Prelude.{◌≡◌, ◌≤◌, ◌↔◌, IsSome, IfSome};
-ghost use Rattle.kt_words.specs.HeadWords.{FitsHeadWord, IsHeadWord, ReadsHead, packed_head};
+ghost use Rattle.kt_words.specs.HeadWords.{FitsHeadWord, HasHeadWord, IsHeadWord, ReadsHead, packed_head};
 ghost use Rattle.kt_words.specs.declared.head_word.HeadWord.{HeadWord};
 
 /// The head of a list of waiting tasks.
@@ -37,24 +37,31 @@ impl HeadWord {
         }
     }
 
+    /// What the word of a head says.
+    pub fn of(word: u64) -> HeadWord
+        requires { IsHeadWord word }
+        ensures packed { HasHeadWord word result }
+        ensures numbers { ReadsHead word result }
+    {
+        if word == CLOSED {
+            return HeadWord::Closed;
+        }
+        HeadWord::Listed {
+            first: ((word % 1_048_576) as u32).checked_sub(1),
+            length: (word / 1_048_576) as u32,
+        }
+    }
+
     /// What the word says, where it is the word of such a head.
     pub fn unpack(word: u64) -> Option<HeadWord>
-        ensures packed { IfSome result (λ value. FitsHeadWord value × (packed_head value ≡ word)) }
-        ensures every { (value : HeadWord) → FitsHeadWord value → packed_head value ≡ word → result ≡ Some value }
+        ensures packed { IfSome result (λ value. HasHeadWord word value) }
+        ensures every { (value : HeadWord) → HasHeadWord word value → result ≡ Some value }
         ensures exactly { IsSome result ↔ IsHeadWord word }
         ensures numbers { IfSome result (λ value. ReadsHead word value) }
     {
-        if word == CLOSED {
-            return Some(HeadWord::Closed);
-        }
-        let length = word / 1_048_576;
-        if length >= 4_194_304 {
+        if word != CLOSED && word / 1_048_576 >= 4_194_304 {
             return None;
         }
-        let link = (word % 1_048_576) as u32;
-        Some(HeadWord::Listed {
-            first: link.checked_sub(1),
-            length: length as u32,
-        })
+        Some(HeadWord::of(word))
     }
 }

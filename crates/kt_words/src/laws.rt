@@ -1,7 +1,9 @@
+ghost use Rattle.kt_words.specs.ClassLaws.{BlocksHaveWords, ClassIsLeast, ClassIsOneOfFour, ClassRises};
 ghost use Rattle.kt_words.specs.GeometryLaws.{UnitsByName, BlocksFill, BlocksEndInside, UnitNamesPlace, RoomIsEither, NumbersMakeGeometry, NumbersMakePlan};
 ghost use Rattle.kt_words.specs.SuperWordLaws.{SuperWordSaysItsNumbers, SuperWordIsItsNumbers, SuperWordSaysItsValue, SuperWordHasOneValue, SuperWordFits, CountRises, CountFalls, EverRises, ClassChanges, WordReserves, WordReservesSame};
 ghost use Rattle.kt_words.specs.StateWordLaws.{StateWordSaysItsNumbers, StateWordIsItsNumbers, StateWordSaysItsValue, StateWordHasOneValue, PhaseHasOneCode, TagHasOneCode, PhaseChanges, PriorityChanges, TagChanges, NumberChanges};
 ghost use Rattle.kt_words.specs.HeadWordLaws.{HeadWordSaysItsNumbers, HeadWordIsItsNumbers, HeadWordSaysItsValue, HeadWordHasOneValue, LinkHasOneCode, ListedIsNotClosed, LengthRises, LengthFalls, FirstChanges};
+ghost use Rattle.kt_words.specs.RootWordLaws.{RootWordIsAmongThem, RootWordHasOneValue, ZeroIsNotAsked, EachUnitFits};
 
 /// What each geometry keeps.
 pub fn geometries()
@@ -11,6 +13,14 @@ pub fn geometries()
     ensures place { UnitNamesPlace }
     ensures room { RoomIsEither }
     ensures numbers { NumbersMakeGeometry }
+{}
+
+/// Which class holds so many words.
+pub fn classes()
+    ensures words { BlocksHaveWords }
+    ensures least { ClassIsLeast }
+    ensures four { ClassIsOneOfFour }
+    ensures rises { ClassRises }
 {}
 
 /// Plans are told apart by their numbers.
@@ -70,4 +80,12 @@ pub fn head_words_change()
     ensures more { LengthRises }
     ensures less { LengthFalls }
     ensures first { FirstChanges }
+{}
+
+/// The word of a root says one thing.
+pub fn root_words()
+    ensures among { RootWordIsAmongThem }
+    ensures one_value { RootWordHasOneValue }
+    ensures zero { ZeroIsNotAsked }
+    ensures units { EachUnitFits }
 {}

@@ -1,6 +1,5 @@
-ghost use Rattle.std.specs.Prelude.{◌≡◌, ◌≤◌, ◌↔◌, IsSome, IfSome};
+ghost use Rattle.std.specs.Prelude.{◌≡◌, ◌≤◌};
 ghost use Rattle.kt_words.specs.StateWords.{phase_code};
-ghost use Rattle.kt_words.specs.declared.phase.Phase.{Phase};
 
 /// Where a task's record stands.
 #[derive(Debug, Clone, Copy, PartialEq, Eq)]
@@ -34,19 +33,17 @@ impl Phase {
         }
     }
 
-    pub(crate) fn from_code(code: u8) -> Option<Phase>
-        ensures coded { IfSome result (λ phase. phase_code phase ≡ code) }
-        ensures every { (phase : Phase) → phase_code phase ≡ code → result ≡ Some phase }
-        ensures exactly { IsSome result ↔ (code ≤ 5) }
+    pub(crate) fn of(code: u8) -> Phase
+        requires { code ≤ 5 }
+        ensures { phase_code result ≡ code }
     {
         match code {
-            0 => Some(Phase::Free),
-            1 => Some(Phase::Made),
-            2 => Some(Phase::Waiting),
-            3 => Some(Phase::Ready),
-            4 => Some(Phase::Running),
-            5 => Some(Phase::Complete),
-            _ => None,
+            0 => Phase::Free,
+            1 => Phase::Made,
+            2 => Phase::Waiting,
+            3 => Phase::Ready,
+            4 => Phase::Running,
+            _ => Phase::Complete,
         }
     }
 }

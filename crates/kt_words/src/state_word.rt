@@ -1,5 +1,5 @@
 ghost use Rattle.std.specs.Prelude.{◌≡◌, ◌≤◌, ◌↔◌, IsSome, IfSome};
-ghost use Rattle.kt_words.specs.StateWords.{FitsStateWord, IsStateWord, packed_state, phase_code, tag_code, phase_of, priority_of, tag_of, number_of};
+ghost use Rattle.kt_words.specs.StateWords.{FitsStateWord, HasStateWord, IsStateWord, ReadsState, packed_state};
 ghost use Rattle.kt_words.specs.declared.state_word.StateWord.{StateWord};
 
 use crate::phase::Phase;
@@ -29,25 +29,30 @@ impl StateWord {
             + 256 * u64::from(self.number)
     }
 
+    /// What the word of a state says.
+    pub fn of(word: u64) -> StateWord
+        requires { IsStateWord word }
+        ensures packed { HasStateWord word result }
+        ensures numbers { ReadsState word result }
+    {
+        StateWord {
+            phase: Phase::of((word % 8) as u8),
+            priority: (word / 8 % 4) as u8,
+            tag: Tag::of((word / 32 % 8) as u8),
+            number: (word / 256) as u32,
+        }
+    }
+
     /// What the word says, where it is the word of such a state.
     pub fn unpack(word: u64) -> Option<StateWord>
-        ensures packed { IfSome result (λ value. FitsStateWord value × (packed_state value ≡ word)) }
-        ensures every { (value : StateWord) → FitsStateWord value → packed_state value ≡ word → result ≡ Some value }
+        ensures packed { IfSome result (λ value. HasStateWord word value) }
+        ensures every { (value : StateWord) → HasStateWord word value → result ≡ Some value }
         ensures exactly { IsSome result ↔ IsStateWord word }
-        ensures numbers { IfSome result (λ value. (phase_code value.phase ≡ phase_of word) × (value.priority ≡ priority_of word) × (tag_code value.tag ≡ tag_of word) × (value.number ≡ number_of word)) }
+        ensures numbers { IfSome result (λ value. ReadsState word value) }
     {
-        let number = word / 256;
-        let priority = (word / 8 % 4) as u8;
-        if priority > 2 || number >= 16_777_216 {
+        if word % 8 > 5 || word / 8 % 4 > 2 || word / 32 % 8 > 6 || word / 256 >= 16_777_216 {
             return None;
         }
-        let phase = Phase::from_code((word % 8) as u8)?;
-        let tag = Tag::from_code((word / 32 % 8) as u8)?;
-        Some(StateWord {
-            phase,
-            priority,
-            tag,
-            number: number as u32,
-        })
+        Some(StateWord::of(word))
     }
 }

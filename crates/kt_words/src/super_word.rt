@@ -1,5 +1,5 @@
-ghost use Rattle.std.specs.Prelude.{◌≡◌, ◌≤◌, ◌↔◌, IsSome, IfSome};
-ghost use Rattle.kt_words.specs.SuperWords.{FitsSuperWord, IsSuperWord, packed_super, count_of, class_of, ever_of};
+ghost use Rattle.std.specs.Prelude.{◌≡◌, ◌+◌, ◌<◌, ◌≤◌, ◌↔◌, IsSome, IfSome};
+ghost use Rattle.kt_words.specs.SuperWords.{FitsSuperWord, HasSuperWord, IsSuperWord, ReadsSuper, packed_super, reserved_word, risen};
 ghost use Rattle.kt_words.specs.declared.super_word.SuperWord.{SuperWord};
 
 /// What a superblock's word says.
@@ -13,6 +13,8 @@ pub struct SuperWord {
     pub ever: u64,
 }
 
+const MOST_EVER: u64 = 17_592_186_044_415;
+
 impl SuperWord {
     /// The word that says this.
     pub fn pack(self) -> u64
@@ -23,19 +25,47 @@ impl SuperWord {
         u64::from(self.count) + 65_536 * u64::from(self.class) + 1_048_576 * self.ever
     }
 
+    /// What a superblock's word says.
+    pub fn of(word: u64) -> SuperWord
+        requires { IsSuperWord word }
+        ensures packed { HasSuperWord word result }
+        ensures numbers { ReadsSuper word result }
+    {
+        SuperWord {
+            count: (word % 65_536) as u16,
+            class: (word / 65_536 % 16) as u8,
+            ever: word / 1_048_576,
+        }
+    }
+
     /// What the word says, where it is the word of such numbers.
     pub fn unpack(word: u64) -> Option<SuperWord>
-        ensures packed { IfSome result (λ value. FitsSuperWord value × (packed_super value ≡ word)) }
-        ensures every { (value : SuperWord) → FitsSuperWord value → packed_super value ≡ word → result ≡ Some value }
+        ensures packed { IfSome result (λ value. HasSuperWord word value) }
+        ensures every { (value : SuperWord) → HasSuperWord word value → result ≡ Some value }
         ensures exactly { IsSome result ↔ IsSuperWord word }
-        ensures numbers { IfSome result (λ value. (value.count ≡ count_of word) × (value.class ≡ class_of word) × (value.ever ≡ ever_of word)) }
+        ensures numbers { IfSome result (λ value. ReadsSuper word value) }
     {
-        let class = (word / 65_536 % 16) as u8;
-        if class > 3 {
+        if word / 65_536 % 16 > 3 {
             return None;
         }
-        let count = (word % 65_536) as u16;
-        let ever = word / 1_048_576;
-        Some(SuperWord { count, class, ever })
+        Some(SuperWord::of(word))
+    }
+
+    /// After one more reservation, of a block of the class. `ever` stays at its greatest value, 2^44 - 1.
+    pub fn reserved(self, class: u8) -> SuperWord
+        requires fits { FitsSuperWord self }
+        requires room { self.count < 65535 }
+        requires class { class ≤ 3 }
+        ensures packed { packed_super result ≡ reserved_word (packed_super self) class }
+        ensures count { result.count ≡ self.count + 1 }
+        ensures class { result.class ≡ class }
+        ensures ever { result.ever ≡ risen self.ever }
+        ensures fits { FitsSuperWord result }
+    {
+        SuperWord {
+            count: self.count + 1,
+            class,
+            ever: (self.ever + 1).min(MOST_EVER),
+        }
     }
 }

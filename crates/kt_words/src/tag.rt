@@ -1,6 +1,5 @@
-ghost use Rattle.std.specs.Prelude.{◌≡◌, ◌≤◌, ◌↔◌, IsSome, IfSome};
+ghost use Rattle.std.specs.Prelude.{◌≡◌, ◌≤◌};
 ghost use Rattle.kt_words.specs.StateWords.{tag_code};
-ghost use Rattle.kt_words.specs.declared.tag.Tag.{Tag};
 
 /// What a task's record has for a result.
 #[derive(Debug, Clone, Copy, PartialEq, Eq)]
@@ -37,20 +36,18 @@ impl Tag {
         }
     }
 
-    pub(crate) fn from_code(code: u8) -> Option<Tag>
-        ensures coded { IfSome result (λ tag. tag_code tag ≡ code) }
-        ensures every { (tag : Tag) → tag_code tag ≡ code → result ≡ Some tag }
-        ensures exactly { IsSome result ↔ (code ≤ 6) }
+    pub(crate) fn of(code: u8) -> Tag
+        requires { code ≤ 6 }
+        ensures { tag_code result ≡ code }
     {
         match code {
-            0 => Some(Tag::Unset),
-            1 => Some(Tag::Number),
-            2 => Some(Tag::Overflow),
-            3 => Some(Tag::Divide),
-            4 => Some(Tag::NoRow),
-            5 => Some(Tag::Null),
-            6 => Some(Tag::Limit),
-            _ => None,
+            0 => Tag::Unset,
+            1 => Tag::Number,
+            2 => Tag::Overflow,
+            3 => Tag::Divide,
+            4 => Tag::NoRow,
+            5 => Tag::Null,
+            _ => Tag::Limit,
         }
     }
 }

@@ -1,4 +1,4 @@
-use crate::{Geometry, HeadWord, Phase, Plan, StateWord, SuperWord, Tag};
+use crate::{Geometry, HeadWord, Phase, Plan, RootStatus, StateWord, SuperWord, Tag, class_for};
 use std::test::Fail;
 
 #[test]
@@ -31,6 +31,17 @@ fn a_superblock_with_its_greatest_numbers(rt: HostRuntime) {
 }
 
 #[test]
+fn a_superblock_after_a_reservation(rt: HostRuntime) {
+    assert_eq!(rt; SuperWord::of(8_388_616).reserved(2).pack(), 9_568_265);
+    let last = SuperWord {
+        count: 0,
+        class: 3,
+        ever: 17_592_186_044_415,
+    };
+    assert_eq!(rt; last.reserved(0).ever, 17_592_186_044_415);
+}
+
+#[test]
 fn a_ready_task(rt: HostRuntime) {
     let value = StateWord {
         phase: Phase::Ready,
@@ -41,6 +52,7 @@ fn a_ready_task(rt: HostRuntime) {
     let word = value.pack();
     assert_eq!(rt; word, 1291);
     assert_eq!(rt; StateWord::unpack(word), Some(value));
+    assert_eq!(rt; StateWord::of(word), value);
 }
 
 #[test]
@@ -73,6 +85,7 @@ fn lists_that_are_open(rt: HostRuntime) {
     let word = two.pack();
     assert_eq!(rt; word, 2_097_159);
     assert_eq!(rt; HeadWord::unpack(word), Some(two));
+    assert_eq!(rt; HeadWord::of(word), two);
 }
 
 #[test]
@@ -85,6 +98,45 @@ fn a_list_with_its_greatest_numbers(rt: HostRuntime) {
     assert_eq!(rt; word, 4_398_046_511_103);
     assert_eq!(rt; HeadWord::unpack(word), Some(value));
     assert_eq!(rt; HeadWord::unpack(word + 1), None);
+}
+
+#[test]
+fn roots(rt: HostRuntime) {
+    let cases = [
+        (0, RootStatus::NotAsked),
+        (1, RootStatus::Record(0)),
+        (524_288, RootStatus::Record(524_287)),
+        (1_048_577, RootStatus::Null),
+        (1_048_578, RootStatus::Limit),
+        (1_048_594, RootStatus::Skipped(15)),
+    ];
+    for (word, root) in cases {
+        assert_eq!(rt; RootStatus::unpack(word), Some(root));
+    }
+    assert_eq!(rt; RootStatus::Skipped(9).pack(), 1_048_588);
+}
+
+#[test]
+fn words_of_no_root(rt: HostRuntime) {
+    for word in [524_289, 1_048_576, 1_048_595, u64::MAX] {
+        assert_eq!(rt; RootStatus::unpack(word), None);
+    }
+}
+
+#[test]
+fn classes_for_words(rt: HostRuntime) {
+    for (words, class) in [
+        (1, 0),
+        (8, 0),
+        (9, 1),
+        (16, 1),
+        (17, 2),
+        (32, 2),
+        (33, 3),
+        (64, 3),
+    ] {
+        assert_eq!(rt; class_for(words), class);
+    }
 }
 
 #[test]
