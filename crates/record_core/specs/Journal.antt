@@ -1,4 +1,4 @@
--- The journal of a run, what is written into it, and the order of its stamps.
+-- The journal of a run: what each call writes into it, and what it keeps.
 use Rattle.std.specs.Prelude.{◌≡◌, ℕ, suc, ◌+◌, ◌<◌, ◌≤◌, ◌⊎◌, Bool, true, false, nat_eq, cond, Option, Some, None, IsSome, List, [], ◌∷◌, ◌++◌, length, IfSome}
 use Rattle.std.specs.Option.{option_map, option_map_or}
 use Rattle.record_core.specs.Numbers.{by_number, put_number, HasTask}
@@ -10,8 +10,8 @@ use Rattle.record_core.specs.declared.rows.Cause.TheVariants.{Clear, Null, Limit
 use Rattle.record_core.specs.declared.rows.CutTag.{CutTag}
 use Rattle.record_core.specs.declared.rows.CutTag.TheVariants as cut_tag
 
--- the rows of the activations and of the tasks, both by number, how many stamps are written, and how many numbers may
--- be drawn; at a respawn's number nothing is written into `tasks`
+-- Both lists go by number. `stamps` counts starts and finishes together, and no more than `limit` numbers are drawn. What
+-- `tasks` has at a number that a respawn drew is never written.
 pub record JournalState : Type 0 where
   pub rows : List ActivationRow
   pub tasks : List TaskRow
@@ -27,7 +27,7 @@ abbrev pub task_or : Option ℕ → ℕ → ℕ
 task_or None n = n
 task_or (Some t) n = t
 
--- the next number: of a task, or of a new one
+-- the number that is drawn next
 abbrev pub next_number : JournalState → ℕ
 next_number j = suc (length j.rows)
 
@@ -73,7 +73,7 @@ cause_in (Some task) = task.cause
 abbrev pub cause_of : List TaskRow → ℕ → Cause
 cause_of tasks t = cause_in (by_number tasks t)
 
--- how many of the activations from number n on are the first of their task
+-- how many of these rows, numbered from n on, are the first of their task
 abbrev pub tasks_from : ℕ → List ActivationRow → ℕ
 tasks_from n [] = 0
 tasks_from n (row ∷ rows) = cond (nat_eq row.task n) 1 0 + tasks_from (suc n) rows
@@ -81,7 +81,7 @@ tasks_from n (row ∷ rows) = cond (nat_eq row.task n) 1 0 + tasks_from (suc n) 
 abbrev pub task_count : List ActivationRow → ℕ
 task_count rows = tasks_from 1 rows
 
--- the order of stamps
+-- stamps
 
 pub data Event : Type 0 where
   Starts : ℕ → Event
@@ -91,14 +91,14 @@ abbrev pub stamp_of : List ActivationRow → List TaskRow → Event → Option �
 stamp_of rows tasks (Starts n) = start_of rows n
 stamp_of rows tasks (Finishes t) = finish_of tasks t
 
--- the stamps are the numbers from 1 up to this one, each once
+-- each number from 1 to `most` is the stamp of exactly one event, and no other number is a stamp
 pub record AreStampedOnce (rows : List ActivationRow) (tasks : List TaskRow) (most : ℕ) : Type 0 where
   pub within : (e : Event) (s : ℕ) → stamp_of rows tasks e ≡ Some s → (1 ≤ s) × (s ≤ most)
   pub once : (e f : Event) (s : ℕ) → stamp_of rows tasks e ≡ Some s → stamp_of rows tasks f ≡ Some s → e ≡ f
   pub every : (s : ℕ) → 1 ≤ s → s ≤ most → (e : Event) × (stamp_of rows tasks e ≡ Some s)
 
--- an activation starts behind the finish of the task that it is behind; the starts of a task rise with its numbers, and
--- lie before its finish
+-- An activation starts after the task that it is behind has finished. A task's activations start one after the other, in
+-- the order of their numbers, and it finishes after all of these starts.
 pub record AreInOrder (rows : List ActivationRow) (tasks : List TaskRow) : Type 0 where
   pub behind : (n u s : ℕ) (row : ActivationRow) → by_number rows n ≡ Some row → row.after ≡ Some u → row.start ≡ Some s
       → (f : ℕ) × (finish_of tasks u ≡ Some f) × (f < s)
@@ -107,7 +107,8 @@ pub record AreInOrder (rows : List ActivationRow) (tasks : List TaskRow) : Type 
   pub before : (n f : ℕ) (row : ActivationRow) → by_number rows n ≡ Some row → finish_of tasks row.task ≡ Some f
       → (s : ℕ) × (row.start ≡ Some s) × (s < f)
 
--- an activation is of an accepted task, which has the number of its first one, and is behind an accepted task or none
+-- Activation n belongs to the task that has the number of its own first activation. If it is behind a task, that one was
+-- accepted earlier.
 pub record IsOfTask (rows : List ActivationRow) (n : ℕ) (row : ActivationRow) : Type 0 where
   pub first : row.task ≤ n
   pub of_task : HasTask rows row.task
@@ -118,7 +119,7 @@ AreOfTasks rows = (n : ℕ) (row : ActivationRow) → by_number rows n ≡ Some 
 
 -- cuts
 
--- the task was refused itself, with this result
+-- the cause is a refusal of the task itself, of this kind
 abbrev pub IsRefusal : CutTag → Cause → Type 0
 IsRefusal cut_tag.Null cause = cause ≡ Null
 IsRefusal cut_tag.Limit cause = cause ≡ Limit
@@ -127,13 +128,13 @@ abbrev pub is_cut : Cause → Bool
 is_cut Clear = false
 is_cut _ = true
 
--- from a cut task the causes lead to one that was refused itself, with this result, each to a task that finished before
+-- Following causes from task t, each to a task that finished earlier, one comes to a refusal of this kind.
 pub data Leads (tasks : List TaskRow) (tag : CutTag) : ℕ → Type 0 where
   refused : {t : ℕ} → IsRefusal tag (cause_of tasks t) → Leads tasks tag t
   cut_by : {t : ℕ} (u f g : ℕ) → cause_of tasks t ≡ By u → finish_of tasks u ≡ Some g → finish_of tasks t ≡ Some f → g < f
       → Leads tasks tag u → Leads tasks tag t
 
--- the last activation of task t is behind task u
+-- the last of the activations of task t is behind task u
 pub record IsLastBehind (rows : List ActivationRow) (t u : ℕ) : Type 0 where
   pub number : ℕ
   pub row : ActivationRow
@@ -142,11 +143,11 @@ pub record IsLastBehind (rows : List ActivationRow) (t u : ℕ) : Type 0 where
   pub after : row.after ≡ Some u
   pub last : (m : ℕ) (other : ActivationRow) → by_number rows m ≡ Some other → other.task ≡ t → m ≤ number
 
--- a task that was cut by another has it as the predecessor of its last activation, and its causes lead to a refusal
+-- whoever is cut by a task was last behind that task, and its causes lead to a refusal
 abbrev pub CausesLead : List ActivationRow → List TaskRow → Type 0
 CausesLead rows tasks = (t u : ℕ) → cause_of tasks t ≡ By u → IsLastBehind rows t u × ((tag : CutTag) × Leads tasks tag t)
 
--- what every journal keeps, when each call keeps to its conditions: the part of rows
+-- what holds of every journal, whatever calls were made under their conditions
 pub record IsJournal (j : JournalState) : Type 0 where
   pub beside : length j.tasks ≡ length j.rows
   pub within : length j.rows ≤ j.limit
@@ -154,32 +155,32 @@ pub record IsJournal (j : JournalState) : Type 0 where
   pub finished : (t f : ℕ) → finish_of j.tasks t ≡ Some f → HasTask j.rows t
   pub stamped : AreStampedOnce j.rows j.tasks j.stamps
   pub ordered : AreInOrder j.rows j.tasks
-  -- only the last number of a task may lack a start
+  -- all numbers of a task but the last have begun
   pub begun : (n m : ℕ) (one other : ActivationRow) → n < m → by_number j.rows n ≡ Some one → by_number j.rows m ≡ Some other
       → one.task ≡ other.task → IsSome one.start
-  -- a cause is written with a finish, and one that names a task names a cut one that finished before
+  -- a cause comes with a finish, and causes lead to a refusal
   pub caused : (t : ℕ) → finish_of j.tasks t ≡ None → cause_of j.tasks t ≡ Clear
   pub led : (t u : ℕ) → cause_of j.tasks t ≡ By u → (tag : CutTag) × Leads j.tasks tag t
 
--- the conditions of the calls
+-- what a call asks for
 
--- all numbers of the task have begun
 abbrev pub HasAllBegun : List ActivationRow → ℕ → Type 0
 HasAllBegun rows t = (n : ℕ) (row : ActivationRow) → by_number rows n ≡ Some row → row.task ≡ t → IsSome row.start
 
--- the task was accepted, has not finished, and all its numbers have begun
+-- a task that may draw a further number, or finish
 pub record IsUnderWay (j : JournalState) (t : ℕ) : Type 0 where
   pub accepted : HasTask j.rows t
   pub unfinished : finish_of j.tasks t ≡ None
   pub begun : HasAllBegun j.rows t
 
+-- an activation that waits for nothing, and has not begun
 pub record MayBegin (j : JournalState) (n : ℕ) : Type 0 where
   pub row : ActivationRow
   pub accepted : by_number j.rows n ≡ Some row
   pub not_begun : row.start ≡ None
   pub free : IfSome row.after (λ u. IsSome (finish_of j.tasks u))
 
--- a cause names a finished task that was cut
+-- a task may only be cut by one that has finished and was cut itself
 abbrev pub MayCause : JournalState → Cause → Type 0
 MayCause j (By u) = IsSome (finish_of j.tasks u) × (is_cut (cause_of j.tasks u) ≡ true)
 MayCause j _ = Unit {0}

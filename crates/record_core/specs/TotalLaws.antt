@@ -19,7 +19,7 @@ TotalSetTwo X = (f : X → ℕ) (xs : List X) (place place' : ℕ) (old new old'
     → slice_get xs place ≡ Some old → slice_get xs place' ≡ Some old'
     → total f (slice_set (slice_set xs place new) place' new') + f old + f old' ≡ total f xs + f new + f new'
 
--- one is added at the end, and a list behind a list
+-- one is added at the end, and a whole list is
 abbrev pub TotalSnoc : Type 0 → Type 0
 TotalSnoc X = (f : X → ℕ) (xs : List X) (x : X) → total f (xs ++ x ∷ []) ≡ total f xs + f x
 
