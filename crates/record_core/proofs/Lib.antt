@@ -1,3 +1,4 @@
 mod Examples
 pub mod TotalFacts
 pub mod BelowFacts
+pub mod CountFacts

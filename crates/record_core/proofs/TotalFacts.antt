@@ -11,7 +11,7 @@ use Rattle.record_core.specs.Sums.{total, below, without}
 one_member : {X : Type 0} (f : X → ℕ) (x y : X) → Some x ≡ Some y → f x ≡ f y
 one_member {X} f x y e = let go : Option X → ℕ = λ o. elim o [ None ↦ 0 | Some z ↦ f z ] in ap go e
 
-none_there : {X : Type 0} (x : X) → None ≡ Some x → ⊥
+pub none_there : {X : Type 0} (x : X) → None ≡ Some x → ⊥
 none_there x e = cc
 
 pub total-sum : {X : Type 0} (f : X → ℕ) (xs : List X) → total f xs ≡ sum_by f xs

@@ -4,6 +4,7 @@ use Rattle.task_syntax.specs.Places.{EachAt}
 use Rattle.task_syntax.specs.declared.program.Root.{Root as RootLine}
 use Rattle.task_syntax.specs.declared.program.Program.{Program}
 use Rattle.task_meaning.specs.Meant.{future_at}
+use Rattle.task_meaning.specs.RootLaws.{root_waits}
 use Rattle.record_core.specs.Numbers.{by_number}
 use Rattle.record_core.specs.Journal.{is_cut, cause_of}
 use Rattle.record_core.specs.EndSeen.{EndSeen}
@@ -17,11 +18,6 @@ abbrev pub IsUncut : List TaskRow → Option ℕ → Type 0
 IsUncut tasks None = ⊥
 IsUncut tasks (Some t) = cause_of tasks t ≡ Clear
 
--- the own task of the root that a root's line is behind
-abbrev pub own_waited : List (Option ℕ) → Option ℕ → Option ℕ
-own_waited own None = None
-own_waited own (Some r) = future_at own r
-
 pub record EndFaithful (p : Program) (e : EndSeen) : Type 0 where
   -- A root shows a value exactly where its own task was not cut.
   pub clear : EachAt e.roots (λ at end. IsValueEnd end ↔ IsUncut e.tasks (future_at e.own at))
@@ -30,4 +26,4 @@ pub record EndFaithful (p : Program) (e : EndSeen) : Type 0 where
       → is_cut (cause_of e.tasks u) ≡ true → cause_of e.tasks row.task ≡ By u
   -- The first activation of a root's own task is behind what the root's line is behind.
   pub own_behind : (at t : ℕ) (root : RootLine) (row : ActivationRow) → slice_get p.roots at ≡ Some root
-      → future_at e.own at ≡ Some t → by_number e.rows t ≡ Some row → row.after ≡ own_waited e.own root.behind
+      → future_at e.own at ≡ Some t → by_number e.rows t ≡ Some row → row.after ≡ root_waits e.own root.behind

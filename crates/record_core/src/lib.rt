@@ -5,11 +5,13 @@
 //! `specs/Sums.antt` defines the sums; the functions on them do nothing, and the contract of each is a law.
 #![tactic(auto)]
 
+mod counts;
 mod ended;
 mod rows;
 mod sums_below;
 mod totals;
 
+pub use counts::{counts_change, counts_tell, first_dropped};
 pub use ended::Ended;
 pub use rows::{ActivationRow, Cause, CutFrom, CutTag, RootEnd, TaskRow};
 pub use sums_below::{sums_below_change, sums_below_compare};
