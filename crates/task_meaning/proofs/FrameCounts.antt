@@ -1,19 +1,18 @@
 -- What is still counted from the frames of tasks while calls are accepted.
-use Rattle.std.specs.Prelude.{◌≡◌, ℕ, zero, suc, ◌+◌, ◌-◌, ◌≤◌, ◌↔◌, Option, Some, None, List, [], ◌∷◌, ◌++◌, length, replicate}
-use Rattle.std.proofs.Common.{refl, sym, ap, subst, ◌∙◌, arith}
-use Rattle.task_syntax.specs.Places.{Each}
+use Rattle.std.specs.Prelude.{◌≡◌, ℕ, suc, ◌+◌, ◌≤◌, ◌↔◌, Option, Some, None, List, [], ◌∷◌, ◌++◌, length}
+use Rattle.std.proofs.Common.{refl, sym, ap, ◌∙◌, arith}
 use Rattle.task_syntax.specs.declared.value.Value.{Value}
 use Rattle.task_syntax.specs.declared.program.Program.{Program}
 use Rattle.task_syntax.specs.declared.columns.Columns.{Columns}
 use Rattle.task_meaning.specs.Meant.{Counts, Meant, counted, total, given, adding, future_at, behind}
-use Rattle.task_meaning.specs.Frame.{FrameOf, CallOf, Place, holds_at, variables_of, padded, entry, set_future, call_with}
+use Rattle.task_meaning.specs.Frame.{FrameOf, CallOf, Place, entry, set_future, call_with}
 use Rattle.task_meaning.specs.Meaning.{with_child, rest, mean}
 use Rattle.task_meaning.specs.Worths.{Accepted, OfCall, worth_of, worths, place_in, rest_of}
 use Rattle.task_meaning.specs.Acts.{Calls, ActsAt}
-use Rattle.task_meaning.specs.WorthLaws.{NamesUpTo}
 use Rattle.task_meaning.specs.FrameLaws.{NamesTask, task_waited, NamesAccepted}
 use Rattle.task_meaning.specs.FrameCounts.{RestCounts}
-use Rattle.task_meaning.proofs.Grows.{Stays, Stays-at, AllStay, AllStay-set, Within, Within-behind}
+use Rattle.task_meaning.specs.AcceptedLaws.{IsCallAt}
+use Rattle.task_meaning.proofs.Grows.{Stays, Stays-at, AllStay, AllStay-set, Within, Within-refl, Within-behind}
 use Rattle.task_meaning.proofs.Fuel.{rest-grows, mean-within}
 use Rattle.task_meaning.proofs.Complete.{complete-behind, complete-rest, complete-mean}
 use Rattle.task_meaning.proofs.Ahead.{AllJumpAhead}
@@ -22,7 +21,7 @@ use Rattle.task_meaning.proofs.ToRuns.{behind-given, adding-given, with_child-gi
 use Rattle.task_meaning.proofs.RootsInTurn.{total-assoc}
 use Rattle.task_meaning.proofs.Renaming.{entry-renamed}
 use Rattle.task_meaning.proofs.Worths.{worths-stay, AllStay-named, call-within, later-rest, acts-in}
-use Rattle.task_meaning.proofs.Frames.{task-names, kept-names, call-names, last-rest, behind-task, value_of}
+use Rattle.task_meaning.proofs.Frames.{call-worth_at, next-rest, last-call, behind-task, value_of}
 
 pub counts_in : (m more : Meant) → m ≡ more → m.counts ≡ more.counts
 counts_in m more e = ap (λ (r : Meant). r.counts) e
@@ -60,20 +59,6 @@ whole p c n m accepted waits q k l e =
           (given-by (rest_of p c n accepted waits q) v k f e),
     )
 
-padded-names : (most n : ℕ) (fs : List (Option ℕ)) → Each fs (NamesUpTo most) → Each (padded n None fs) (NamesUpTo most)
-padded-names most n fs h = go fs h (n - length fs)
-  where
-    go : (gs : List (Option ℕ)) → Each gs (NamesUpTo most) → (m : ℕ) → Each (gs ++ replicate m None) (NamesUpTo most)
-    go [] k zero i f e = absurd (cc e)
-    go [] k (suc m) zero f e = let s : None ≡ f = cc e in subst (NamesUpTo most) s tt
-    go [] k (suc m) (suc i) f e = go [] k m i f e
-    go (g ∷ gs) k m zero f e = k zero f e
-    go (g ∷ gs) k m (suc i) f e = go gs (λ j x u. k (suc j) x u) m i f e
-
-entry-names : (p : Program) (most : ℕ) (call : CallOf ℕ) → Each call.futures (NamesUpTo most) → Each (entry p call).futures (NamesUpTo most)
-entry-names p most call h =
-    kept-names most 0 (holds_at p call.kind 0) (padded (variables_of p call.kind) None call.futures) (padded-names most (variables_of p call.kind) call.futures h)
-
 -- a spawn in a frame: the child behind the task that is waited for, and then the frame behind
 spawn-whole : (p : Program) (c : Columns) → AllJumpAhead p → (n : ℕ) (ws : List (Option Value)) (q : FrameOf ℕ) (to : ℕ) (call : CallOf ℕ) (x : Option ℕ)
     → ActsAt p c q (Calls to call x) → NamesTask q x
@@ -94,25 +79,17 @@ complete-child_in : (p : Program) (c : Columns) (n : ℕ) (ws : List (Option Val
     → (behind waits ws (mean p c n (call_with (future_at ws) call))).counts ≡ Some k → (v : Value) × ((behind waits ws (mean p c n (call_with (future_at ws) call))).value ≡ Some v)
 complete-child_in p c n ws waits call = complete-behind waits ws (mean p c n (call_with (future_at ws) call)) (complete-mean p c n (call_with (future_at ws) call))
 
-module _ (p : Program) (c : Columns) (ahead : AllJumpAhead p) (accepted : List Accepted) (waits : Option ℕ) (q : FrameOf ℕ) (to : ℕ) (call : CallOf ℕ) (x : Option ℕ)
-    (names : NamesAccepted accepted waits q) (at : ActsAt p c q (Calls to call x)) (held : NamesTask q x) where
-  later : List Accepted
-  later = accepted ++ OfCall call (task_waited q x) ∷ []
-
+module _ (p : Program) (c : Columns) (ahead : AllJumpAhead p) (accepted : List Accepted) (position : ℕ) (waits : Option ℕ) (q : FrameOf ℕ) (to : ℕ) (call : CallOf ℕ) (x : Option ℕ)
+    (at : ActsAt p c q (Calls to call x)) (held : NamesTask q x) (is : IsCallAt accepted position call (task_waited q x)) where
   next : FrameOf ℕ
-  next = set_future q to (Some (suc (length accepted)))
+  next = set_future q to (Some (suc position))
 
-  -- the child's first frame is as it was before the call was accepted
-  first-unchanged : (n : ℕ) → rest_of p c n later (task_waited q x) (entry p call) ≡ rest_of p c n accepted (task_waited q x) (entry p call)
-  unfolding later
-  first-unchanged n =
-      later-rest p c n accepted (OfCall call (task_waited q x) ∷ []) (task_waited q x) (entry p call)
-      (entry-names p (length accepted) call (call-names p c (length accepted) q to call x names.0 at))
-      (task-names (length accepted) q names.0 x)
+  -- the counts of the spawn are those of the child and of the next frame
+  AddsUp : Counts → Type 0
+  AddsUp k = (i : Counts) × (j : Counts) × RestCounts p c accepted (task_waited q x) (entry p call) i × RestCounts p c accepted waits next j × (k ≡ total one (total i j))
 
-  spawn-forth : (k : Counts) → RestCounts p c accepted waits q k
-      → (i : Counts) × (j : Counts) × RestCounts p c later (task_waited q x) (entry p call) i × RestCounts p c later waits next j × (k ≡ total one (total i j))
-  unfolding later next
+  spawn-forth : (k : Counts) → RestCounts p c accepted waits q k → AddsUp k
+  unfolding AddsUp next
   spawn-forth k (n, e) =
       let ws : List (Option Value) = worths p c (suc n) accepted in
       let (v, f) = whole p c n (suc n) accepted waits q k (omega arith) e in
@@ -128,37 +105,35 @@ module _ (p : Program) (c : Columns) (ahead : AllJumpAhead p) (accepted : List A
       ∙ within-given _ _ w i' (mean-within p c n (suc n) (call_with (future_at ws) call) (omega arith)) a') in
       let first : rest_of p c (suc n) accepted (task_waited q x) (entry p call) ≡ given w i
       = behind-ready (task_waited q x) ws (rest p c (suc n) (place_in ws (entry p call))) ready' ∙ d' in
-      let second : rest_of p c (suc n) (accepted ++ OfCall call (task_waited q x) ∷ []) waits (set_future q to (Some (suc (length accepted)))) ≡ given v j
-      = last-rest p c (suc n) accepted (OfCall call (task_waited q x)) waits q to names
+      let second : rest_of p c (suc n) accepted waits (set_future q to (Some (suc position))) ≡ given v j
+      = next-rest p c (suc n) accepted position (OfCall call (task_waited q x)) (call-worth_at p c accepted position call (task_waited q x) is) waits q to
       ∙ ap (λ (o : Option Value). behind waits ws (rest p c (suc n) (set_future (place_in ws q) to o))) worth
       ∙ behind-ready waits ws (rest p c (suc n) (set_future (place_in ws q) to (Some w))) ready
       ∙ b in (
         i,
         j,
-        (suc n, counts_in _ (given w i) (first-unchanged (suc n) ∙ first)),
+        (suc n, counts_in _ (given w i) first),
         (suc n, counts_in _ (given v j) second),
         s ∙ ap (λ (r : Counts). total r j) (s' ∙ ap (λ (r : Counts). total r i) (sym u')) ∙ total-assoc one i j,
       )
 
-  spawn-back : (k : Counts)
-      → (i : Counts) × (j : Counts) × RestCounts p c later (task_waited q x) (entry p call) i × RestCounts p c later waits next j × (k ≡ total one (total i j))
-      → RestCounts p c accepted waits q k
-  unfolding later next
+  spawn-back : (k : Counts) → AddsUp k → RestCounts p c accepted waits q k
+  unfolding AddsUp next
   spawn-back k (i, j, (n, e), (m, f), s) =
       let most : ℕ = n + m in
       let vs : List (Option Value) = worths p c most accepted in
       let ws : List (Option Value) = worths p c (suc most) accepted in
       let h : AllStay vs ws = worths-stay p c most (suc most) (omega arith) accepted in
-      let (w, a) = whole p c n most later (task_waited q x) (entry p call) i (omega arith) e in
-      let (v, b) = whole p c m most later waits next j (omega arith) f in
-      let (ready', a') = behind-given (task_waited q x) vs (rest p c most (place_in vs (entry p call))) w i (sym (first-unchanged most) ∙ a) in
+      let (w, a) = whole p c n most accepted (task_waited q x) (entry p call) i (omega arith) e in
+      let (v, b) = whole p c m most accepted waits next j (omega arith) f in
+      let (ready', a') = behind-given (task_waited q x) vs (rest p c most (place_in vs (entry p call))) w i a in
       let child : mean p c most (call_with (future_at vs) call) ≡ given w (total one i)
       = child-frame p c most vs call ∙ ap (adding (counted 1 1)) a' in
       let child' : behind (task_waited q x) vs (mean p c most (call_with (future_at vs) call)) ≡ given w (total one i)
       = behind-ready (task_waited q x) vs (mean p c most (call_with (future_at vs) call)) ready' ∙ child in
       let b' : behind waits vs (rest p c most (set_future (place_in vs q) to (Some w))) ≡ given v j
       = ap (λ (o : Option Value). behind waits vs (rest p c most (set_future (place_in vs q) to o))) (sym (value_of _ _ child'))
-      ∙ sym (last-rest p c most accepted (OfCall call (task_waited q x)) waits q to names) ∙ b in
+      ∙ sym (next-rest p c most accepted position (OfCall call (task_waited q x)) (call-worth_at p c accepted position call (task_waited q x) is) waits q to) ∙ b in
       let (ready, b'') = behind-given waits vs (rest p c most (set_future (place_in vs q) to (Some w))) v j b' in
       let whole_child : behind (task_waited q x) ws (mean p c most (call_with (future_at ws) call)) ≡ given w (total one i)
       = within-given _ _ w (total one i) (Within-behind (task_waited q x) vs ws _ _ h (call-within p c most most (omega arith) vs ws h call)) child' in
@@ -169,17 +144,28 @@ module _ (p : Program) (c : Columns) (ahead : AllJumpAhead p) (accepted : List A
       ∙ child-given _ w v (total one i) j (rest p c (suc most)) (place_in ws q) to whole_child whole_next in
       let end : rest_of p c (suc most) accepted waits q ≡ given v (total (total one i) j)
       = within-given _ _ v (total (total one i) j)
-      (Within-behind waits vs ws _ _ h (record { value = stay (rest p c (suc most) (place_in ws q)).value; counts = stay-counts (rest p c (suc most) (place_in ws q)).counts }))
+      (Within-behind waits vs ws _ _ h (Within-refl (rest p c (suc most) (place_in ws q))))
       (behind-ready waits vs (rest p c (suc most) (place_in ws q)) ready ∙ place) in
       (suc most, counts_in _ _ end ∙ ap Some (total-assoc one i j ∙ sym s))
-    where
-      stay : (o : Option Value) → Stays o o
-      stay None = tt
-      stay (Some v) = refl
 
-      stay-counts : (o : Option Counts) → Stays o o
-      stay-counts None = tt
-      stay-counts (Some v) = refl
+-- at a spawn whose call stands at a position, and at one whose call is accepted now
+pub accepted_spawns-counts : (p : Program) (c : Columns) → AllJumpAhead p
+    → (accepted : List Accepted) (position : ℕ) (waits : Option ℕ) (q : FrameOf ℕ) (to : ℕ) (call : CallOf ℕ) (x : Option ℕ) (k : Counts)
+    → ActsAt p c q (Calls to call x) → NamesTask q x → IsCallAt accepted position call (task_waited q x)
+    → RestCounts p c accepted waits q k
+    ↔ ((i : Counts) × (j : Counts) × RestCounts p c accepted (task_waited q x) (entry p call) i
+    × RestCounts p c accepted waits (set_future q to (Some (suc position))) j × (k ≡ total one (total i j)))
+unfolding AddsUp next
+accepted_spawns-counts p c ahead accepted position waits q to call x k at held is =
+    (spawn-forth p c ahead accepted position waits q to call x at held is k, spawn-back p c ahead accepted position waits q to call x at held is k)
+
+-- a frame counts what it counted before one more was accepted
+pub grown-counts : (p : Program) (c : Columns) (accepted : List Accepted) (a : Accepted) (waits : Option ℕ) (q : FrameOf ℕ) (k : Counts) → NamesAccepted accepted waits q
+    → RestCounts p c accepted waits q k ↔ RestCounts p c (accepted ++ a ∷ []) waits q k
+grown-counts p c accepted a waits q k names = (
+  λ g. (g.0, counts_in _ _ (later-rest p c g.0 accepted (a ∷ []) waits q names.0 names.1) ∙ g.1),
+  λ g. (g.0, sym (counts_in _ _ (later-rest p c g.0 accepted (a ∷ []) waits q names.0 names.1)) ∙ g.1),
+)
 
 pub spawns-counts : (p : Program) (c : Columns) → AllJumpAhead p → (accepted : List Accepted) (waits : Option ℕ) (q : FrameOf ℕ) (to : ℕ) (call : CallOf ℕ) (x : Option ℕ) (k : Counts)
     → NamesAccepted accepted waits q → ActsAt p c q (Calls to call x) → NamesTask q x
@@ -188,6 +174,8 @@ pub spawns-counts : (p : Program) (c : Columns) → AllJumpAhead p → (accepted
     × RestCounts p c (accepted ++ OfCall call (task_waited q x) ∷ []) (task_waited q x) (entry p call) i
     × RestCounts p c (accepted ++ OfCall call (task_waited q x) ∷ []) waits (set_future q to (Some (suc (length accepted)))) j
     × (k ≡ total one (total i j)))
-unfolding later next
 spawns-counts p c ahead accepted waits q to call x k names at held =
-    (spawn-forth p c ahead accepted waits q to call x names at held k, spawn-back p c ahead accepted waits q to call x names at held k)
+    let a : Accepted = OfCall call (task_waited q x) in
+    let grown = grown-counts p c accepted a waits q k names in
+    let both = accepted_spawns-counts p c ahead (accepted ++ a ∷ []) (length accepted) waits q to call x k at held (last-call p c accepted q to call x names.0 at) in
+    (λ g. both.0 (grown.0 g), λ g. grown.1 (both.1 g))

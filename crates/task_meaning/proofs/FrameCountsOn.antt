@@ -7,7 +7,7 @@ use Rattle.task_syntax.specs.declared.value.Value.TheVariants.{Number}
 use Rattle.task_syntax.specs.declared.program.Program.{Program}
 use Rattle.task_syntax.specs.declared.columns.Columns.{Columns}
 use Rattle.task_meaning.specs.Meant.{Counts, Meant, counted, total, gives, given, adding, with_value, future_at, behind, behind_all}
-use Rattle.task_meaning.specs.Frame.{FrameOf, Place, holds_at, enter, set_number, set_future, renamed}
+use Rattle.task_meaning.specs.Frame.{FrameOf, Place, enter, set_number, set_future, renamed}
 use Rattle.task_meaning.specs.Meaning.{with_child, rest}
 use Rattle.task_meaning.specs.Worths.{Accepted, OfAll, Respawn, worth_of, worths, place_in, rest_of}
 use Rattle.task_meaning.specs.Acts.{Gathers, Reads, Respawns, Finishes, ActsAt}
@@ -15,6 +15,7 @@ use Rattle.task_meaning.specs.Runs.{HasValue, IsTrap}
 use Rattle.task_meaning.specs.Leads.{no_counts}
 use Rattle.task_meaning.specs.FrameLaws.{WorthGives, HasWorth, NamesTask, task_waited, NamesAccepted}
 use Rattle.task_meaning.specs.FrameCounts.{RestCounts}
+use Rattle.task_meaning.specs.AcceptedLaws.{IsAggregateAt}
 use Rattle.task_meaning.proofs.Grows.{Stays-at, AllStay, Within-counted, Within-behind}
 use Rattle.task_meaning.proofs.Ahead.{AllJumpAhead}
 use Rattle.task_meaning.proofs.Complete.{complete-behind_all}
@@ -22,12 +23,12 @@ use Rattle.task_meaning.proofs.FromRuns.{given-later, rest-acts, behind-ready, b
 use Rattle.task_meaning.proofs.ToRuns.{behind-given, behind_all-given, adding-given, with_child-given}
 use Rattle.task_meaning.proofs.GoesOn.{aggregate-given}
 use Rattle.task_meaning.proofs.Renaming.{enter-renamed}
-use Rattle.task_meaning.proofs.Worths.{worths-stay, later-rest, acts-in}
-use Rattle.task_meaning.proofs.Frames.{task-names, kept-names, worth-last, last-rest, behind-task, value_of}
-use Rattle.task_meaning.proofs.FrameEnds.{ready-from, worth-later, read-acts, named-at}
-use Rattle.task_meaning.proofs.FrameCounts.{counts_in, within-given, place-within, rest_of-within, whole}
+use Rattle.task_meaning.proofs.Worths.{worths-stay, acts-in}
+use Rattle.task_meaning.proofs.Frames.{aggregate-worth_at, next-rest, last-aggregate, behind-task, value_of}
+use Rattle.task_meaning.proofs.FrameEnds.{ready-from, worth-later, read-acts, named-at, enter-names}
+use Rattle.task_meaning.proofs.FrameCounts.{counts_in, within-given, place-within, rest_of-within, whole, grown-counts}
 
-counts-later : (p : Program) (c : Columns) (n m : ℕ) (accepted : List Accepted) (waits : Option ℕ) (q : FrameOf ℕ) (k : Counts) → n ≤ m
+pub counts-later : (p : Program) (c : Columns) (n m : ℕ) (accepted : List Accepted) (waits : Option ℕ) (q : FrameOf ℕ) (k : Counts) → n ≤ m
     → (rest_of p c n accepted waits q).counts ≡ Some k → (rest_of p c m accepted waits q).counts ≡ Some k
 counts-later p c n m accepted waits q k l e = Stays-at _ _ (rest_of-within p c n m l accepted waits q).counts k e
 
@@ -86,16 +87,10 @@ respawn-whole p c ahead n ws q target x at held =
 abbrev start : Counts
 start = record { tasks = 0; activations = 1 }
 
-module _ (p : Program) (c : Columns) (ahead : AllJumpAhead p) (accepted : List Accepted) (waits : Option ℕ) (q : FrameOf ℕ) (target task : ℕ) (x : Option ℕ)
-    (names : NamesAccepted accepted waits q) (at : ActsAt p c q (Respawns target x)) (held : NamesTask q x) where
-  enter-unchanged : (n : ℕ) → rest_of p c n (accepted ++ Respawn task (task_waited q x) ∷ []) (task_waited q x) (enter p q target)
-      ≡ rest_of p c n accepted (task_waited q x) (enter p q target)
-  enter-unchanged n =
-      later-rest p c n accepted (Respawn task (task_waited q x) ∷ []) (task_waited q x) (enter p q target)
-      (kept-names (length accepted) 0 (holds_at p q.kind target) q.futures names.0) (task-names (length accepted) q names.0 x)
-
+module _ (p : Program) (c : Columns) (ahead : AllJumpAhead p) (accepted : List Accepted) (waits : Option ℕ) (q : FrameOf ℕ) (target : ℕ) (x : Option ℕ)
+    (at : ActsAt p c q (Respawns target x)) (held : NamesTask q x) where
   respawn-forth : (k : Counts) → RestCounts p c accepted waits q k
-      → (j : Counts) × RestCounts p c (accepted ++ Respawn task (task_waited q x) ∷ []) (task_waited q x) (enter p q target) j × (k ≡ total start j)
+      → (j : Counts) × RestCounts p c accepted (task_waited q x) (enter p q target) j × (k ≡ total start j)
   respawn-forth k (n, e) =
       let ws : List (Option Value) = worths p c (suc n) accepted in
       let next : FrameOf ℕ = enter p q target in
@@ -107,10 +102,10 @@ module _ (p : Program) (c : Columns) (ahead : AllJumpAhead p) (accepted : List A
       let u' : start ≡ i = cc u in
       let first : rest_of p c (suc n) accepted (task_waited q x) next ≡ given v j
       = behind-ready (task_waited q x) ws (rest p c (suc n) (place_in ws next)) ready' ∙ given-later p c n (suc n) (place_in ws next) v j (omega arith) r in
-      (j, (suc n, counts_in _ (given v j) (enter-unchanged (suc n) ∙ first)), s ∙ ap (λ (b : Counts). total b j) (sym u'))
+      (j, (suc n, counts_in _ (given v j) first), s ∙ ap (λ (b : Counts). total b j) (sym u'))
 
   respawn-back : HasWorth p c accepted waits → (k : Counts)
-      → (j : Counts) × RestCounts p c (accepted ++ Respawn task (task_waited q x) ∷ []) (task_waited q x) (enter p q target) j × (k ≡ total start j)
+      → (j : Counts) × RestCounts p c accepted (task_waited q x) (enter p q target) j × (k ≡ total start j)
       → RestCounts p c accepted waits q k
   respawn-back h k (j, (n, e), s) =
       let (m, ready) = ready-from p c accepted waits h in
@@ -118,8 +113,8 @@ module _ (p : Program) (c : Columns) (ahead : AllJumpAhead p) (accepted : List A
       let vs : List (Option Value) = worths p c most accepted in
       let ws : List (Option Value) = worths p c (suc most) accepted in
       let next : FrameOf ℕ = enter p q target in
-      let (v, f) = whole p c n most (accepted ++ Respawn task (task_waited q x) ∷ []) (task_waited q x) next j (omega arith) e in
-      let (ready', g) = behind-given (task_waited q x) vs (rest p c most (place_in vs next)) v j (sym (enter-unchanged most) ∙ f) in
+      let (v, f) = whole p c n most accepted (task_waited q x) next j (omega arith) e in
+      let (ready', g) = behind-given (task_waited q x) vs (rest p c most (place_in vs next)) v j f in
       let grows : AllStay vs ws = worths-stay p c most (suc most) (omega arith) accepted in
       let there : behind (task_waited q x) ws (adding (counted 0 1) (rest p c most (place_in ws next))) ≡ given v (total start j)
       = within-given (behind (task_waited q x) vs (adding (counted 0 1) (rest p c most (place_in vs next)))) _ v (total start j)
@@ -128,6 +123,40 @@ module _ (p : Program) (c : Columns) (ahead : AllJumpAhead p) (accepted : List A
       let end : rest_of p c (suc most) accepted waits q ≡ given v (total start j)
       = ready (suc most) (omega arith) (rest p c (suc most) (place_in ws q)) ∙ respawn-whole p c ahead most ws q target x at held ∙ there in
       (suc most, counts_in _ (given v (total start j)) end ∙ ap Some (sym s))
+
+-- at a respawn, whatever was accepted, and at one that is accepted now
+pub accepted_respawns-counts : (p : Program) (c : Columns) → AllJumpAhead p → (accepted : List Accepted) (waits : Option ℕ) (q : FrameOf ℕ) (target : ℕ) (x : Option ℕ) (k : Counts)
+    → ActsAt p c q (Respawns target x) → NamesTask q x → HasWorth p c accepted waits
+    → RestCounts p c accepted waits q k
+    ↔ ((j : Counts) × RestCounts p c accepted (task_waited q x) (enter p q target) j × (k ≡ total start j))
+accepted_respawns-counts p c ahead accepted waits q target x k at held h =
+    (respawn-forth p c ahead accepted waits q target x at held k, respawn-back p c ahead accepted waits q target x at held h k)
+
+pub respawns-counts : (p : Program) (c : Columns) → AllJumpAhead p → (accepted : List Accepted) (waits : Option ℕ) (q : FrameOf ℕ) (target task : ℕ) (x : Option ℕ) (k : Counts)
+    → NamesAccepted accepted waits q → ActsAt p c q (Respawns target x) → NamesTask q x → HasWorth p c accepted waits
+    → RestCounts p c accepted waits q k
+    ↔ ((j : Counts) × RestCounts p c (accepted ++ Respawn task (task_waited q x) ∷ []) (task_waited q x) (enter p q target) j × (k ≡ total start j))
+respawns-counts p c ahead accepted waits q target task x k names at held h =
+    let both = accepted_respawns-counts p c ahead accepted waits q target x k at held h in
+    let grown = λ (j : Counts). grown-counts p c accepted (Respawn task (task_waited q x)) (task_waited q x) (enter p q target) j (enter-names p accepted q target x names.0) in
+    (λ g. let (j, r, s) = both.0 g in (j, (grown j).0 r, s), λ t. let (j, r, s) = t in both.1 (j, (grown j).1 r, s))
+
+-- what is counted from a frame behind no task, against a task with a worth
+pub retries-counts : (p : Program) (c : Columns) (accepted : List Accepted) (waits : Option ℕ) (q : FrameOf ℕ) (k : Counts) → HasWorth p c accepted waits
+    → RestCounts p c accepted None q k ↔ RestCounts p c accepted waits q k
+retries-counts p c accepted waits q k h =
+    let (m, ready) = ready-from p c accepted waits h in (
+      λ g. (
+        g.0 + m,
+        counts_in _ _ (ready (g.0 + m) (omega arith) (rest p c (g.0 + m) (place_in (worths p c (g.0 + m) accepted) q)))
+            ∙ counts-later p c g.0 (g.0 + m) accepted None q k (omega arith) g.1,
+      ),
+      λ g. (
+        g.0 + m,
+        sym (counts_in _ _ (ready (g.0 + m) (omega arith) (rest p c (g.0 + m) (place_in (worths p c (g.0 + m) accepted) q))))
+            ∙ counts-later p c g.0 (g.0 + m) accepted waits q k (omega arith) g.1,
+      ),
+    )
 
 -- an aggregate in a frame
 members-whole : (ws : List (Option Value)) (fs : List (Option ℕ)) (members tasks : List ℕ) → map (future_at fs) members ≡ map Some tasks
@@ -149,7 +178,7 @@ members-length fs (x ∷ members) (t ∷ tasks) e =
     let others : map (future_at fs) members ≡ map Some tasks = cc e in ap suc (members-length fs members tasks others)
 
 -- each member has a value, where the aggregate has one
-members-valued : (ws : List (Option Value)) (tasks : List ℕ) (m : Meant) (v : Value) → (behind_all tasks ws m).value ≡ Some v → Each tasks (HasValue ws)
+pub members-valued : (ws : List (Option Value)) (tasks : List ℕ) (m : Meant) (v : Value) → (behind_all tasks ws m).value ≡ Some v → Each tasks (HasValue ws)
 members-valued ws [] m v e = λ i t f. absurd (cc f)
 members-valued ws (u ∷ tasks) m v e = go (members-valued ws tasks m v) (future_at ws u) refl e
   where
@@ -170,15 +199,18 @@ aggregate-whole p c ahead n ws q to members tasks at named =
     ∙ ap (behind_all tasks ws) (aggregate-given (length members)
     ∙ ap (λ (l : ℕ). given (Number 0) (record { tasks = 1; activations = l })) (members-length q.futures members tasks named)))
 
-module _ (p : Program) (c : Columns) (ahead : AllJumpAhead p) (accepted : List Accepted) (waits : Option ℕ) (q : FrameOf ℕ) (to : ℕ) (members tasks : List ℕ)
-    (names : NamesAccepted accepted waits q) (at : ActsAt p c q (Gathers to members)) (named : map (future_at q.futures) members ≡ map Some tasks) where
+module _ (p : Program) (c : Columns) (ahead : AllJumpAhead p) (accepted : List Accepted) (position : ℕ) (waits : Option ℕ) (q : FrameOf ℕ) (to : ℕ) (members tasks : List ℕ)
+    (at : ActsAt p c q (Gathers to members)) (named : map (future_at q.futures) members ≡ map Some tasks) (is : IsAggregateAt accepted position tasks) where
   all_of : Counts
   all_of = record { tasks = 1; activations = length tasks }
 
-  aggregate-forth : (k : Counts) → RestCounts p c accepted waits q k
-      → (j : Counts) × WorthGives p c (accepted ++ OfAll tasks ∷ []) (suc (length accepted)) (Number 0)
-      × RestCounts p c (accepted ++ OfAll tasks ∷ []) waits (set_future q to (Some (suc (length accepted)))) j × (k ≡ total all_of j)
-  unfolding all_of
+  -- the counts of the line are those of the aggregate and of the next frame
+  GathersUp : Counts → Type 0
+  GathersUp k = (j : Counts) × WorthGives p c accepted (suc position) (Number 0)
+      × RestCounts p c accepted waits (set_future q to (Some (suc position))) j × (k ≡ total all_of j)
+
+  aggregate-forth : (k : Counts) → RestCounts p c accepted waits q k → GathersUp k
+  unfolding all_of GathersUp
   aggregate-forth k (n, e) =
       let ws : List (Option Value) = worths p c (suc n) accepted in
       let zero_given : Meant = given (Number 0) all_of in
@@ -191,39 +223,47 @@ module _ (p : Program) (c : Columns) (ahead : AllJumpAhead p) (accepted : List A
       let counts_are : Some all_of ≡ Some i = counts_in zero_given (given w i) a' in
       let i_is : all_of ≡ i = cc counts_are in
       let worth : worth_of p c (suc n) ws (OfAll tasks) ≡ Some (Number 0) = value_of _ _ (behind_all-ready tasks ws (gives (Number 0)) each) in
-      let second : rest_of p c (suc n) (accepted ++ OfAll tasks ∷ []) waits (set_future q to (Some (suc (length accepted)))) ≡ given v j
-      = last-rest p c (suc n) accepted (OfAll tasks) waits q to names
+      let second : rest_of p c (suc n) accepted waits (set_future q to (Some (suc position))) ≡ given v j
+      = next-rest p c (suc n) accepted position (OfAll tasks) (aggregate-worth_at p c accepted position tasks is) waits q to
       ∙ ap (λ (o : Option Value). behind waits ws (rest p c (suc n) (set_future (place_in ws q) to o))) (worth ∙ value_is)
       ∙ behind-ready waits ws (rest p c (suc n) (set_future (place_in ws q) to (Some w))) ready
-      ∙ b in
-      (j, (suc n, worth-last p c (suc n) accepted (OfAll tasks) ∙ worth), (suc n, counts_in _ (given v j) second), s ∙ ap (λ (r : Counts). total r j) (sym i_is))
+      ∙ b in (
+        j,
+        (suc n, aggregate-worth_at p c accepted position tasks is (suc n) ∙ worth),
+        (suc n, counts_in _ (given v j) second),
+        s ∙ ap (λ (r : Counts). total r j) (sym i_is),
+      )
 
-  aggregate-back : (k : Counts)
-      → (j : Counts) × WorthGives p c (accepted ++ OfAll tasks ∷ []) (suc (length accepted)) (Number 0)
-      × RestCounts p c (accepted ++ OfAll tasks ∷ []) waits (set_future q to (Some (suc (length accepted)))) j × (k ≡ total all_of j)
-      → RestCounts p c accepted waits q k
-  unfolding all_of
+  aggregate-back : (k : Counts) → GathersUp k → RestCounts p c accepted waits q k
+  unfolding all_of GathersUp
   aggregate-back k (j, (n, e), (m, f), s) =
       let most : ℕ = suc (n + m) in
       let ws : List (Option Value) = worths p c most accepted in
-      let (v, b) = whole p c m most (accepted ++ OfAll tasks ∷ []) waits (set_future q to (Some (suc (length accepted)))) j (omega arith) f in
+      let (v, b) = whole p c m most accepted waits (set_future q to (Some (suc position))) j (omega arith) f in
       let worth : worth_of p c most ws (OfAll tasks) ≡ Some (Number 0)
-      = sym (worth-last p c most accepted (OfAll tasks)) ∙ worth-later p c n most (accepted ++ OfAll tasks ∷ []) (suc (length accepted)) (Number 0) (omega arith) e in
+      = sym (aggregate-worth_at p c accepted position tasks is most) ∙ worth-later p c n most accepted (suc position) (Number 0) (omega arith) e in
       let each : Each tasks (HasValue ws) = members-valued ws tasks (gives (Number 0)) (Number 0) worth in
       let (ready, b') = behind-given waits ws (rest p c most (set_future (place_in ws q) to (Some (Number 0)))) v j
       (ap (λ (o : Option Value). behind waits ws (rest p c most (set_future (place_in ws q) to o))) (sym worth)
-      ∙ sym (last-rest p c most accepted (OfAll tasks) waits q to names) ∙ b) in
+      ∙ sym (next-rest p c most accepted position (OfAll tasks) (aggregate-worth_at p c accepted position tasks is) waits q to) ∙ b) in
       let place : rest p c most (place_in ws q) ≡ given v (total all_of j)
       = aggregate-whole p c ahead (n + m) ws q to members tasks at named
       ∙ child-given _ (Number 0) v all_of j (rest p c most) (place_in ws q) to (behind_all-ready tasks ws (given (Number 0) all_of) each) b' in
       (most, counts_in _ (given v (total all_of j)) (behind-ready waits ws (rest p c most (place_in ws q)) ready ∙ place) ∙ ap Some (sym s))
 
-pub respawns-counts : (p : Program) (c : Columns) → AllJumpAhead p → (accepted : List Accepted) (waits : Option ℕ) (q : FrameOf ℕ) (target task : ℕ) (x : Option ℕ) (k : Counts)
-    → NamesAccepted accepted waits q → ActsAt p c q (Respawns target x) → NamesTask q x → HasWorth p c accepted waits
+-- at an aggregate that was accepted at a position, and at one that is accepted now
+pub accepted_aggregates-counts : (p : Program) (c : Columns) → AllJumpAhead p
+    → (accepted : List Accepted) (position : ℕ) (waits : Option ℕ) (q : FrameOf ℕ) (to : ℕ) (members tasks : List ℕ) (k : Counts)
+    → ActsAt p c q (Gathers to members) → map (future_at q.futures) members ≡ map Some tasks → IsAggregateAt accepted position tasks
     → RestCounts p c accepted waits q k
-    ↔ ((j : Counts) × RestCounts p c (accepted ++ Respawn task (task_waited q x) ∷ []) (task_waited q x) (enter p q target) j × (k ≡ total start j))
-respawns-counts p c ahead accepted waits q target task x k names at held h =
-    (respawn-forth p c ahead accepted waits q target task x names at held k, respawn-back p c ahead accepted waits q target task x names at held h k)
+    ↔ ((j : Counts) × WorthGives p c accepted (suc position) (Number 0)
+    × RestCounts p c accepted waits (set_future q to (Some (suc position))) j
+    × (k ≡ total (record { tasks = 1; activations = length tasks }) j))
+unfolding all_of GathersUp
+accepted_aggregates-counts p c ahead accepted position waits q to members tasks k at named is = (
+  aggregate-forth p c ahead accepted position waits q to members tasks at named is k,
+  aggregate-back p c ahead accepted position waits q to members tasks at named is k,
+)
 
 pub aggregates-counts : (p : Program) (c : Columns) → AllJumpAhead p → (accepted : List Accepted) (waits : Option ℕ) (q : FrameOf ℕ) (to : ℕ) (members tasks : List ℕ) (k : Counts)
     → NamesAccepted accepted waits q → ActsAt p c q (Gathers to members) → map (future_at q.futures) members ≡ map Some tasks
@@ -231,6 +271,8 @@ pub aggregates-counts : (p : Program) (c : Columns) → AllJumpAhead p → (acce
     ↔ ((j : Counts) × WorthGives p c (accepted ++ OfAll tasks ∷ []) (suc (length accepted)) (Number 0)
     × RestCounts p c (accepted ++ OfAll tasks ∷ []) waits (set_future q to (Some (suc (length accepted)))) j
     × (k ≡ total (record { tasks = 1; activations = length tasks }) j))
-unfolding all_of
 aggregates-counts p c ahead accepted waits q to members tasks k names at named =
-    (aggregate-forth p c ahead accepted waits q to members tasks names at named k, aggregate-back p c ahead accepted waits q to members tasks names at named k)
+    let grown = grown-counts p c accepted (OfAll tasks) waits q k names in
+    let both = accepted_aggregates-counts p c ahead (accepted ++ OfAll tasks ∷ []) (length accepted) waits q to members tasks k at named
+    (last-aggregate accepted q members tasks names.0 named) in
+    (λ g. both.0 (grown.0 g), λ g. grown.1 (both.1 g))

@@ -1,6 +1,7 @@
 -- What follows from a frame at an aggregate, a read, a respawn, and where the task ends.
 use Rattle.std.specs.Prelude.{◌≡◌, ℕ, suc, ◌+◌, ◌≤◌, ◌↔◌, Option, Some, None, List, [], ◌∷◌, ◌++◌, map, length}
 use Rattle.std.proofs.Common.{refl, sym, ap, ◌∙◌, arith}
+use Rattle.task_syntax.specs.Places.{Each}
 use Rattle.task_syntax.specs.declared.value.Value.{Value}
 use Rattle.task_syntax.specs.declared.value.Value.TheVariants.{Number}
 use Rattle.task_syntax.specs.declared.program.Program.{Program}
@@ -11,13 +12,15 @@ use Rattle.task_meaning.specs.Meaning.{aggregate_of, rest}
 use Rattle.task_meaning.specs.Worths.{Accepted, OfAll, Respawn, worth_of, worths, place_in, rest_of}
 use Rattle.task_meaning.specs.Acts.{Gathers, Reads, Respawns, Finishes, ActsAt}
 use Rattle.task_meaning.specs.Runs.{IsTrap}
+use Rattle.task_meaning.specs.WorthLaws.{NamesUpTo}
 use Rattle.task_meaning.specs.FrameLaws.{WorthGives, RestGives, HasWorth, NamesTask, task_waited, NamesAccepted}
+use Rattle.task_meaning.specs.AcceptedLaws.{IsAggregateAt}
 use Rattle.task_meaning.proofs.Grows.{Stays-at, AllStay, AllStay-at, AllStay-refl}
 use Rattle.task_meaning.proofs.Ahead.{AllJumpAhead}
 use Rattle.task_meaning.proofs.FromRuns.{rest-acts, trap-ends}
 use Rattle.task_meaning.proofs.Renaming.{future_at-renamed, enter-renamed}
-use Rattle.task_meaning.proofs.Worths.{later-rest, worths-stay, acts-in}
-use Rattle.task_meaning.proofs.Frames.{task-names, kept-names, rest_of-stays, last-rest, behind-task, value_of, behind-stays, rest-stays}
+use Rattle.task_meaning.proofs.Worths.{worths-stay, acts-in}
+use Rattle.task_meaning.proofs.Frames.{task-names, kept-names, aggregate-worth_at, rest_of-stays, next-rest, grown-gives, last-aggregate, behind-task, value_of, behind-stays, rest-stays}
 
 -- two frames give the same, where they do from some fuel on
 same-give : (p : Program) (c : Columns) (accepted later : List Accepted) (waits then : Option ℕ) (q next : FrameOf ℕ) (v : Value) (m : ℕ)
@@ -59,14 +62,15 @@ members-named ws fs (x ∷ members) (t ∷ tasks) e m more s =
     (members-named ws fs members tasks others m more s)
     ∙ ap (λ (o : Option Value). (with_value o (λ v. behind_all tasks ws more)).value) (named-at ws fs x t first)
 
-pub aggregates-rest : (p : Program) (c : Columns) → AllJumpAhead p → (accepted : List Accepted) (waits : Option ℕ) (q : FrameOf ℕ) (to : ℕ) (members tasks : List ℕ) (v : Value)
-    → NamesAccepted accepted waits q → ActsAt p c q (Gathers to members) → map (future_at q.futures) members ≡ map Some tasks
-    → RestGives p c accepted waits q v ↔ RestGives p c (accepted ++ OfAll tasks ∷ []) waits (set_future q to (Some (suc (length accepted)))) v
-aggregates-rest p c ahead accepted waits q to members tasks v names at named =
-    same-give p c accepted (accepted ++ OfAll tasks ∷ []) waits waits q (set_future q to (Some (suc (length accepted)))) v 0 same
+-- after an aggregate whose members are accepted at a position, and after one that is accepted now
+pub accepted_aggregates-rest : (p : Program) (c : Columns) → AllJumpAhead p
+    → (accepted : List Accepted) (position : ℕ) (waits : Option ℕ) (q : FrameOf ℕ) (to : ℕ) (members tasks : List ℕ) (v : Value)
+    → ActsAt p c q (Gathers to members) → map (future_at q.futures) members ≡ map Some tasks → IsAggregateAt accepted position tasks
+    → RestGives p c accepted waits q v ↔ RestGives p c accepted waits (set_future q to (Some (suc position))) v
+accepted_aggregates-rest p c ahead accepted position waits q to members tasks v at named is =
+    same-give p c accepted accepted waits waits q (set_future q to (Some (suc position))) v 0 same
   where
-    same : (n : ℕ) → 0 ≤ n → (rest_of p c (suc n) accepted waits q).value
-        ≡ (rest_of p c (suc n) (accepted ++ OfAll tasks ∷ []) waits (set_future q to (Some (suc (length accepted))))).value
+    same : (n : ℕ) → 0 ≤ n → (rest_of p c (suc n) accepted waits q).value ≡ (rest_of p c (suc n) accepted waits (set_future q to (Some (suc position)))).value
     same n _ =
         let ws : List (Option Value) = worths p c (suc n) accepted in
         let child : Meant = aggregate_of members (place_in ws q).futures in
@@ -76,7 +80,16 @@ aggregates-rest p c ahead accepted waits q to members tasks v names at named =
         = members-named ws q.futures members tasks named (adding (counted 1 (length members)) (gives (Number 0))) (gives (Number 0)) refl in
         behind-value waits ws (rest p c (suc n) (place_in ws q)) (rest p c (suc n) (set_future (place_in ws q) to (worth_of p c (suc n) ws (OfAll tasks))))
         (acts ∙ ap (λ (o : Option Value). (rest p c (suc n) (set_future (place_in ws q) to o)).value) zero_of)
-        ∙ sym (value_of _ _ (last-rest p c (suc n) accepted (OfAll tasks) waits q to names))
+        ∙ sym (value_of _ _ (next-rest p c (suc n) accepted position (OfAll tasks) (aggregate-worth_at p c accepted position tasks is) waits q to))
+
+pub aggregates-rest : (p : Program) (c : Columns) → AllJumpAhead p → (accepted : List Accepted) (waits : Option ℕ) (q : FrameOf ℕ) (to : ℕ) (members tasks : List ℕ) (v : Value)
+    → NamesAccepted accepted waits q → ActsAt p c q (Gathers to members) → map (future_at q.futures) members ≡ map Some tasks
+    → RestGives p c accepted waits q v ↔ RestGives p c (accepted ++ OfAll tasks ∷ []) waits (set_future q to (Some (suc (length accepted)))) v
+aggregates-rest p c ahead accepted waits q to members tasks v names at named =
+    let grown = grown-gives p c accepted (OfAll tasks) waits q v names in
+    let both = accepted_aggregates-rest p c ahead (accepted ++ OfAll tasks ∷ []) (length accepted) waits q to members tasks v at named
+    (last-aggregate accepted q members tasks names.0 named) in
+    (λ g. both.0 (grown.0 g), λ g. grown.1 (both.1 g))
 
 pub worth-later : (p : Program) (c : Columns) (n m : ℕ) (accepted : List Accepted) (t : ℕ) (v : Value) → n ≤ m
     → future_at (worths p c n accepted) t ≡ Some v → future_at (worths p c m accepted) t ≡ Some v
@@ -135,6 +148,12 @@ traps-rest p c ahead accepted waits q to x t w v at named (m', e) trap h =
     ∙ read-acts p c ahead n accepted q to x t w at named (worth-later p c m' (suc n) accepted t w (omega (arith, l)) e)
     ∙ trap-ends w _ trap))
 
+-- the frame after a respawn names accepted tasks
+pub enter-names : (p : Program) (accepted : List Accepted) (q : FrameOf ℕ) (target : ℕ) (x : Option ℕ) → Each q.futures (NamesUpTo (length accepted))
+    → NamesAccepted accepted (task_waited q x) (enter p q target)
+enter-names p accepted q target x names =
+    (kept-names (length accepted) 0 (holds_at p q.kind target) q.futures names, task-names (length accepted) q names x)
+
 -- what a respawn gives, where the rest has one fuel more than what is behind it
 respawn-acts : (p : Program) (c : Columns) → AllJumpAhead p → (n : ℕ) (accepted : List Accepted) (q : FrameOf ℕ) (target : ℕ) (x : Option ℕ)
     → ActsAt p c q (Respawns target x) → NamesTask q x
@@ -148,10 +167,11 @@ respawn-acts p c ahead n accepted q target x at held =
     ∙ behind-value (task_waited q x) ws (adding (counted 0 1) after) after refl
     ∙ ap (λ (r : Place). (behind (task_waited q x) ws (rest p c n r)).value) (sym (enter-renamed (future_at ws) p q target))
 
-pub respawns-rest : (p : Program) (c : Columns) → AllJumpAhead p → (accepted : List Accepted) (waits : Option ℕ) (q : FrameOf ℕ) (target task : ℕ) (x : Option ℕ) (v : Value)
-    → NamesAccepted accepted waits q → ActsAt p c q (Respawns target x) → NamesTask q x → HasWorth p c accepted waits
-    → RestGives p c accepted waits q v ↔ RestGives p c (accepted ++ Respawn task (task_waited q x) ∷ []) (task_waited q x) (enter p q target) v
-respawns-rest p c ahead accepted waits q target task x v (names, waited) at held h =
+-- after a respawn, whatever was accepted, and after one that is accepted now
+pub accepted_respawns-rest : (p : Program) (c : Columns) → AllJumpAhead p → (accepted : List Accepted) (waits : Option ℕ) (q : FrameOf ℕ) (target : ℕ) (x : Option ℕ) (v : Value)
+    → ActsAt p c q (Respawns target x) → NamesTask q x → HasWorth p c accepted waits
+    → RestGives p c accepted waits q v ↔ RestGives p c accepted (task_waited q x) (enter p q target) v
+accepted_respawns-rest p c ahead accepted waits q target x v at held h =
     let (m, ready) = ready-from p c accepted waits h in (forth m ready, back m ready)
   where
     then : Option ℕ
@@ -159,11 +179,6 @@ respawns-rest p c ahead accepted waits q target task x v (names, waited) at held
 
     next : FrameOf ℕ
     next = enter p q target
-
-    unchanged : (n : ℕ) → (rest_of p c n (accepted ++ Respawn task then ∷ []) then next).value ≡ (rest_of p c n accepted then next).value
-    unchanged n =
-        value_of _ _ (later-rest p c n accepted (Respawn task then ∷ []) then next
-        (kept-names (length accepted) 0 (holds_at p q.kind target) q.futures names) (task-names (length accepted) q names x))
 
     acts : (m : ℕ) → ((n : ℕ) → m ≤ n → (r : Meant) → behind waits (worths p c n accepted) r ≡ r) → (n : ℕ) → m ≤ n
         → (rest_of p c (suc n) accepted waits q).value
@@ -173,25 +188,40 @@ respawns-rest p c ahead accepted waits q target task x v (names, waited) at held
         ∙ respawn-acts p c ahead n accepted q target x at held
 
     forth : (m : ℕ) → ((n : ℕ) → m ≤ n → (r : Meant) → behind waits (worths p c n accepted) r ≡ r) → RestGives p c accepted waits q v
-        → RestGives p c (accepted ++ Respawn task then ∷ []) then next v
+        → RestGives p c accepted then next v
     forth m ready (n, e) =
         let ws : List (Option Value) = worths p c (suc (n + m)) accepted in
         let f = sym (acts m ready (n + m) (omega arith)) ∙ Stays-at _ _ (rest_of-stays p c n (suc (n + m)) (omega arith) accepted waits q) v e in (
           suc (n + m),
-          unchanged (suc (n + m))
-              ∙ Stays-at _ _ (behind-stays then ws ws (rest p c (n + m) (place_in ws next)) (rest p c (suc (n + m)) (place_in ws next)) (AllStay-refl ws)
+          Stays-at _ _ (behind-stays then ws ws (rest p c (n + m) (place_in ws next)) (rest p c (suc (n + m)) (place_in ws next)) (AllStay-refl ws)
               (rest-stays p c (n + m) (suc (n + m)) (omega arith) ws ws (AllStay-refl ws) next)) v f,
         )
 
-    back : (m : ℕ) → ((n : ℕ) → m ≤ n → (r : Meant) → behind waits (worths p c n accepted) r ≡ r) → RestGives p c (accepted ++ Respawn task then ∷ []) then next v
+    back : (m : ℕ) → ((n : ℕ) → m ≤ n → (r : Meant) → behind waits (worths p c n accepted) r ≡ r) → RestGives p c accepted then next v
         → RestGives p c accepted waits q v
     back m ready (n, e) =
         let vs : List (Option Value) = worths p c (n + m) accepted in
         let ws : List (Option Value) = worths p c (suc (n + m)) accepted in
         let s : AllStay vs ws = worths-stay p c (n + m) (suc (n + m)) (omega arith) accepted in
-        let f = Stays-at _ _ (rest_of-stays p c n (n + m) (omega arith) accepted then next) v (sym (unchanged n) ∙ e) in (
+        let f = Stays-at _ _ (rest_of-stays p c n (n + m) (omega arith) accepted then next) v e in (
           suc (n + m),
           acts m ready (n + m) (omega arith)
               ∙ Stays-at _ _ (behind-stays then vs ws (rest p c (n + m) (place_in vs next)) (rest p c (n + m) (place_in ws next)) s
               (rest-stays p c (n + m) (n + m) (omega arith) vs ws s next)) v f,
         )
+
+pub respawns-rest : (p : Program) (c : Columns) → AllJumpAhead p → (accepted : List Accepted) (waits : Option ℕ) (q : FrameOf ℕ) (target task : ℕ) (x : Option ℕ) (v : Value)
+    → NamesAccepted accepted waits q → ActsAt p c q (Respawns target x) → NamesTask q x → HasWorth p c accepted waits
+    → RestGives p c accepted waits q v ↔ RestGives p c (accepted ++ Respawn task (task_waited q x) ∷ []) (task_waited q x) (enter p q target) v
+respawns-rest p c ahead accepted waits q target task x v names at held h =
+    let both = accepted_respawns-rest p c ahead accepted waits q target x v at held h in
+    let grown = grown-gives p c accepted (Respawn task (task_waited q x)) (task_waited q x) (enter p q target) v (enter-names p accepted q target x names.0) in
+    (λ g. grown.0 (both.0 g), λ g. both.1 (grown.1 g))
+
+-- what follows from a frame behind no task, against a task with a worth
+pub retries-rest : (p : Program) (c : Columns) (accepted : List Accepted) (waits : Option ℕ) (q : FrameOf ℕ) (v : Value) → HasWorth p c accepted waits
+    → RestGives p c accepted None q v ↔ RestGives p c accepted waits q v
+retries-rest p c accepted waits q v h =
+    let (m, ready) = ready-from p c accepted waits h in
+    same-give p c accepted accepted None waits q q v m
+    (λ n l. sym (value_of _ _ (ready (suc n) (omega (arith, l)) (rest p c (suc n) (place_in (worths p c (suc n) accepted) q)))))

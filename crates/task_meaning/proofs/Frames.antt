@@ -1,5 +1,5 @@
 -- What follows from the frames of tasks while calls are accepted.
-use Rattle.std.specs.Prelude.{◌≡◌, ℕ, zero, suc, ◌+◌, ◌≤◌, ◌↔◌, Bool, true, false, cond, Option, Some, None, List, [], ◌∷◌, ◌++◌, map, length}
+use Rattle.std.specs.Prelude.{◌≡◌, ℕ, zero, suc, ◌+◌, ◌≤◌, ◌↔◌, Bool, true, false, cond, Option, Some, None, List, [], ◌∷◌, ◌++◌, map, length, slice_get}
 use Rattle.std.proofs.Common.{refl, sym, ap, subst, ◌∙◌, arith}
 use Rattle.task_syntax.specs.Places.{Each}
 use Rattle.task_syntax.specs.Facts.{has}
@@ -15,17 +15,17 @@ use Rattle.task_meaning.specs.Meant.{Meant, with_value, future_at, behind}
 use Rattle.task_meaning.specs.Frame.{FrameOf, CallOf, Place, kept_from, set_number, set_future, operand, future_passed, renamed, call_with}
 use Rattle.task_meaning.specs.Arithmetic.{computed, cell_at}
 use Rattle.task_meaning.specs.Meaning.{mean, rest}
-use Rattle.task_meaning.specs.Worths.{Accepted, OfCall, worth_of, worths, place_in, rest_of}
+use Rattle.task_meaning.specs.Worths.{Accepted, OfCall, OfAll, worth_of, worths, place_in, rest_of}
 use Rattle.task_meaning.specs.Acts.{Act, Calls, steps_with, act_of, ActsAt}
 use Rattle.task_meaning.specs.WorthLaws.{NamesUpTo}
 use Rattle.task_meaning.specs.FrameLaws.{RestGives, NamesTask, task_waited, NamesAccepted}
+use Rattle.task_meaning.specs.AcceptedLaws.{IsCallAt, IsAggregateAt}
 use Rattle.task_meaning.proofs.Grows.{Stays, Stays-at, AllStay, AllStay-at, AllStay-refl, AllStay-set, Within-behind}
 use Rattle.task_meaning.proofs.Fuel.{rest-grows, mean-within}
 use Rattle.task_meaning.proofs.Ahead.{AllJumpAhead}
 use Rattle.task_meaning.proofs.FromRuns.{rest-acts}
-use Rattle.task_meaning.proofs.Lists.{future_at-last}
 use Rattle.task_meaning.proofs.Renaming.{future_at-renamed, set_future-renamed}
-use Rattle.task_meaning.proofs.Worths.{from-append, worths-length, later-worths, worths-stay, AllStay-named, call-within, frame-same, behind-same, acts-in}
+use Rattle.task_meaning.proofs.Worths.{worths-stay, AllStay-named, call-within, call-worth, aggregate-worth, later-rest, acts-in}
 
 -- a call that a frame makes names what the frame names
 passed-names : (most : ℕ) (fs : List (Option ℕ)) → Each fs (NamesUpTo most) → (x : ℕ) → NamesUpTo most (future_at fs x)
@@ -71,25 +71,28 @@ pub call-names : (p : Program) (c : Columns) (most : ℕ) (q : FrameOf ℕ) (to 
     → ActsAt p c q (Calls to call waits) → Each call.futures (NamesUpTo most)
 call-names p c most q to call waits h (line, e, a) = subst (ActNames most) a (act-names most c q h line.instr)
 
--- the worth of what is accepted last
-pub worth-last : (p : Program) (c : Columns) (n : ℕ) (accepted : List Accepted) (a : Accepted)
-    → future_at (worths p c n (accepted ++ a ∷ [])) (suc (length accepted)) ≡ worth_of p c n (worths p c n accepted) a
-worth-last p c n accepted a =
-    let ws : List (Option Value) = worths p c n accepted in
-    ap (λ (vs : List (Option Value)). future_at vs (suc (length accepted))) (from-append p c n (None ∷ []) accepted (a ∷ []))
-    ∙ ap (future_at (ws ++ worth_of p c n ws a ∷ [])) (sym (worths-length p c n accepted))
-    ∙ future_at-last ws (worth_of p c n ws a)
+-- the tasks that members name
+pub member-names : (most : ℕ) (fs : List (Option ℕ)) → Each fs (NamesUpTo most) → (members tasks : List ℕ) → map (future_at fs) members ≡ map Some tasks
+    → Each tasks (λ t. t ≤ most)
+member-names most fs h members [] e at t f = absurd (cc f)
+member-names most fs h [] (u ∷ tasks) e at t f = absurd (cc e)
+member-names most fs h (x ∷ members) (u ∷ tasks) e zero t f =
+    let first : future_at fs x ≡ Some t = (let g : future_at fs x ≡ Some u = cc e in let s : u ≡ t = cc f in g ∙ ap Some s) in
+    subst (NamesUpTo most) first (passed-names most fs h x)
+member-names most fs h (x ∷ members) (u ∷ tasks) e (suc at) t f =
+    let others : map (future_at fs) members ≡ map Some tasks = cc e in member-names most fs h members tasks others at t f
 
--- the place of a frame whose variable names what is accepted last
-last-place : (p : Program) (c : Columns) (n : ℕ) (accepted : List Accepted) (a : Accepted) (q : FrameOf ℕ) (to : ℕ) → Each q.futures (NamesUpTo (length accepted))
-    → place_in (worths p c n (accepted ++ a ∷ [])) (set_future q to (Some (suc (length accepted))))
-    ≡ set_future (place_in (worths p c n accepted) q) to (worth_of p c n (worths p c n accepted) a)
-last-place p c n accepted a q to names =
-    let ws : List (Option Value) = worths p c n (accepted ++ a ∷ []) in
-    set_future-renamed (future_at ws) q to (Some (suc (length accepted)))
-    ∙ ap (λ (o : Option Value). set_future (place_in ws q) to o) (worth-last p c n accepted a)
-    ∙ ap (λ (r : Place). set_future r to (worth_of p c n (worths p c n accepted) a))
-    (frame-same (length accepted) ws (worths p c n accepted) (later-worths p c n accepted (a ∷ [])) q names)
+-- what is accepted at a position is worth what it means with the worths of all
+abbrev pub IsWorthAt : Program → Columns → List Accepted → ℕ → Accepted → Type 0
+IsWorthAt p c accepted position a = (n : ℕ) → future_at (worths p c n accepted) (suc position) ≡ worth_of p c n (worths p c n accepted) a
+
+pub call-worth_at : (p : Program) (c : Columns) (accepted : List Accepted) (position : ℕ) (call : CallOf ℕ) (waits : Option ℕ) → IsCallAt accepted position call waits
+    → IsWorthAt p c accepted position (OfCall call waits)
+call-worth_at p c accepted position call waits is n = call-worth p c n accepted position call waits is.there is.futures is.waits_for
+
+pub aggregate-worth_at : (p : Program) (c : Columns) (accepted : List Accepted) (position : ℕ) (members : List ℕ) → IsAggregateAt accepted position members
+    → IsWorthAt p c accepted position (OfAll members)
+aggregate-worth_at p c accepted position members is n = aggregate-worth p c n accepted position members is.there is.members_earlier
 
 -- waiting for the variable of a frame is waiting for the task that it names
 pub behind-task : (ws : List (Option Value)) (q : FrameOf ℕ) (x : Option ℕ) → NamesTask q x → (m : Meant)
@@ -143,16 +146,46 @@ Stays-to {A} o r s h e = subst (λ (x : Option A). Stays o x) e h
 pub Stays-from : {A : Type 0} (o r s : Option A) → o ≡ r → Stays r s → Stays o s
 Stays-from {A} o r s e h = subst (λ (x : Option A). Stays x s) (sym e) h
 
--- what follows from a frame whose variable names what is accepted last
-pub last-rest : (p : Program) (c : Columns) (n : ℕ) (accepted : List Accepted) (a : Accepted) (waits : Option ℕ) (q : FrameOf ℕ) (to : ℕ) → NamesAccepted accepted waits q
-    → rest_of p c n (accepted ++ a ∷ []) waits (set_future q to (Some (suc (length accepted))))
+-- what follows from a frame whose variable names what is accepted at a position
+pub next-rest : (p : Program) (c : Columns) (n : ℕ) (accepted : List Accepted) (position : ℕ) (a : Accepted) → IsWorthAt p c accepted position a
+    → (waits : Option ℕ) (q : FrameOf ℕ) (to : ℕ)
+    → rest_of p c n accepted waits (set_future q to (Some (suc position)))
     ≡ behind waits (worths p c n accepted) (rest p c n (set_future (place_in (worths p c n accepted) q) to (worth_of p c n (worths p c n accepted) a)))
-last-rest p c n accepted a waits q to (names, waited) =
-    let ws : List (Option Value) = worths p c n (accepted ++ a ∷ []) in
-    let vs : List (Option Value) = worths p c n accepted in
-    let next : FrameOf ℕ = set_future q to (Some (suc (length accepted))) in
-    behind-same (length accepted) ws vs (later-worths p c n accepted (a ∷ [])) waits waited (rest p c n (place_in ws next))
-    ∙ ap (λ (x : Place). behind waits vs (rest p c n x)) (last-place p c n accepted a q to names)
+next-rest p c n accepted position a is waits q to =
+    let ws : List (Option Value) = worths p c n accepted in
+    ap (λ (r : Place). behind waits ws (rest p c n r))
+    (set_future-renamed (future_at ws) q to (Some (suc position)) ∙ ap (λ (o : Option Value). set_future (place_in ws q) to o) (is n))
+
+-- what is accepted last stands after the others
+pub last-accepted : (accepted : List Accepted) (a : Accepted) → slice_get (accepted ++ a ∷ []) (length accepted) ≡ Some a
+last-accepted [] a = refl
+last-accepted (b ∷ accepted) a = last-accepted accepted a
+
+-- a frame gives what it gave before one more was accepted
+pub grown-gives : (p : Program) (c : Columns) (accepted : List Accepted) (a : Accepted) (waits : Option ℕ) (q : FrameOf ℕ) (v : Value) → NamesAccepted accepted waits q
+    → RestGives p c accepted waits q v ↔ RestGives p c (accepted ++ a ∷ []) waits q v
+grown-gives p c accepted a waits q v names = (
+  λ g. (g.0, value_of _ _ (later-rest p c g.0 accepted (a ∷ []) waits q names.0 names.1) ∙ g.1),
+  λ g. (g.0, sym (value_of _ _ (later-rest p c g.0 accepted (a ∷ []) waits q names.0 names.1)) ∙ g.1),
+)
+
+-- the call of a spawn that is accepted last names earlier tasks
+pub last-call : (p : Program) (c : Columns) (accepted : List Accepted) (q : FrameOf ℕ) (to : ℕ) (call : CallOf ℕ) (x : Option ℕ)
+    → Each q.futures (NamesUpTo (length accepted)) → ActsAt p c q (Calls to call x)
+    → IsCallAt (accepted ++ OfCall call (task_waited q x) ∷ []) (length accepted) call (task_waited q x)
+last-call p c accepted q to call x names at = record {
+  there = last-accepted accepted (OfCall call (task_waited q x));
+  futures = call-names p c (length accepted) q to call x names at;
+  waits_for = task-names (length accepted) q names x;
+}
+
+pub last-aggregate : (accepted : List Accepted) (q : FrameOf ℕ) (members tasks : List ℕ)
+    → Each q.futures (NamesUpTo (length accepted)) → map (future_at q.futures) members ≡ map Some tasks
+    → IsAggregateAt (accepted ++ OfAll tasks ∷ []) (length accepted) tasks
+last-aggregate accepted q members tasks names named = record {
+  there = last-accepted accepted (OfAll tasks);
+  members_earlier = member-names (length accepted) q.futures names members tasks named;
+}
 
 -- what a spawn gives the variable, where the rest has one fuel more than the child
 child_value : Program → Columns → ℕ → List Accepted → FrameOf ℕ → CallOf ℕ → Option ℕ → Option Value
@@ -185,32 +218,46 @@ child-after p c n accepted q call x =
     let h = worths-stay p c n (suc n) (omega arith) accepted in
     (Within-behind (task_waited q x) _ _ _ _ h (call-within p c n n (omega arith) _ _ h call)).value
 
-pub spawns-rest : (p : Program) (c : Columns) → AllJumpAhead p → (accepted : List Accepted) (waits : Option ℕ) (q : FrameOf ℕ) (to : ℕ) (call : CallOf ℕ) (x : Option ℕ) (v : Value)
-    → NamesAccepted accepted waits q → ActsAt p c q (Calls to call x) → NamesTask q x
-    → RestGives p c accepted waits q v ↔ RestGives p c (accepted ++ OfCall call (task_waited q x) ∷ []) waits (set_future q to (Some (suc (length accepted)))) v
-spawns-rest p c ahead accepted waits q to call x v names at held = both-give p c accepted (accepted ++ a ∷ []) waits waits q next v forth back
+-- after a spawn whose call stands at a position, and after one whose call is accepted now
+pub accepted_spawns-rest : (p : Program) (c : Columns) → AllJumpAhead p
+    → (accepted : List Accepted) (position : ℕ) (waits : Option ℕ) (q : FrameOf ℕ) (to : ℕ) (call : CallOf ℕ) (x : Option ℕ) (v : Value)
+    → ActsAt p c q (Calls to call x) → NamesTask q x → IsCallAt accepted position call (task_waited q x)
+    → RestGives p c accepted waits q v ↔ RestGives p c accepted waits (set_future q to (Some (suc position))) v
+accepted_spawns-rest p c ahead accepted position waits q to call x v at held is = both-give p c accepted accepted waits waits q next v forth back
   where
     a : Accepted
     a = OfCall call (task_waited q x)
 
     next : FrameOf ℕ
-    next = set_future q to (Some (suc (length accepted)))
+    next = set_future q to (Some (suc position))
 
-    forth : (n : ℕ) → Stays (rest_of p c (suc n) accepted waits q).value (rest_of p c (suc n) (accepted ++ a ∷ []) waits next).value
+    worth : IsWorthAt p c accepted position a
+    worth = call-worth_at p c accepted position call (task_waited q x) is
+
+    forth : (n : ℕ) → Stays (rest_of p c (suc n) accepted waits q).value (rest_of p c (suc n) accepted waits next).value
     forth n =
         let ws : List (Option Value) = worths p c (suc n) accepted in
         let s = set-stays p c (suc n) (suc n) (omega arith) ws ws (AllStay-refl ws) q to _ _ (child-before p c n accepted q call x) in
         Stays-to _ _ _
         (behind-stays waits ws ws (rest p c (suc n) (place_in ws q)) (rest p c (suc n) (set_future (place_in ws q) to (worth_of p c (suc n) ws a)))
         (AllStay-refl ws) (Stays-from _ _ _ (spawn-acts p c ahead n accepted q to call x at held) s))
-        (sym (value_of _ _ (last-rest p c (suc n) accepted a waits q to names)))
+        (sym (value_of _ _ (next-rest p c (suc n) accepted position a worth waits q to)))
 
-    back : (n : ℕ) → Stays (rest_of p c n (accepted ++ a ∷ []) waits next).value (rest_of p c (suc n) accepted waits q).value
+    back : (n : ℕ) → Stays (rest_of p c n accepted waits next).value (rest_of p c (suc n) accepted waits q).value
     back n =
         let vs : List (Option Value) = worths p c n accepted in
         let ws : List (Option Value) = worths p c (suc n) accepted in
         let h : AllStay vs ws = worths-stay p c n (suc n) (omega arith) accepted in
         let s = set-stays p c n (suc n) (omega arith) vs ws h q to _ _ (child-after p c n accepted q call x) in
-        Stays-from _ _ _ (value_of _ _ (last-rest p c n accepted a waits q to names))
+        Stays-from _ _ _ (value_of _ _ (next-rest p c n accepted position a worth waits q to))
         (behind-stays waits vs ws (rest p c n (set_future (place_in vs q) to (worth_of p c n vs a))) (rest p c (suc n) (place_in ws q)) h
         (Stays-to _ _ _ s (sym (spawn-acts p c ahead n accepted q to call x at held))))
+
+pub spawns-rest : (p : Program) (c : Columns) → AllJumpAhead p → (accepted : List Accepted) (waits : Option ℕ) (q : FrameOf ℕ) (to : ℕ) (call : CallOf ℕ) (x : Option ℕ) (v : Value)
+    → NamesAccepted accepted waits q → ActsAt p c q (Calls to call x) → NamesTask q x
+    → RestGives p c accepted waits q v ↔ RestGives p c (accepted ++ OfCall call (task_waited q x) ∷ []) waits (set_future q to (Some (suc (length accepted)))) v
+spawns-rest p c ahead accepted waits q to call x v names at held =
+    let a : Accepted = OfCall call (task_waited q x) in
+    let grown = grown-gives p c accepted a waits q v names in
+    let both = accepted_spawns-rest p c ahead (accepted ++ a ∷ []) (length accepted) waits q to call x v at held (last-call p c accepted q to call x names.0 at) in
+    (λ g. both.0 (grown.0 g), λ g. grown.1 (both.1 g))

@@ -17,4 +17,5 @@ pub mod Frames
 pub mod FrameEnds
 pub mod FrameCounts
 pub mod FrameCountsOn
+pub mod AggregateRest
 pub mod RootTasks

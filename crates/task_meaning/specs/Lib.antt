@@ -13,3 +13,5 @@ pub mod WorthLaws
 pub mod FrameLaws
 pub mod FrameCounts
 pub mod RootLaws
+pub mod AcceptedLaws
+pub mod AggregateLaws

@@ -5,12 +5,18 @@
 //! `specs/Worths.antt` the worth of each task of a run. The functions here do nothing: the contract of each is a law.
 #![tactic(auto)]
 
+mod accepted_laws;
 mod act_laws;
+mod aggregate_laws;
 mod frame_laws;
 mod laws;
 mod worth_laws;
 
+pub use accepted_laws::{accepted_calls_add_counts, accepted_calls_keep_rest, retries_keep_rest};
 pub use act_laws::{ends, goes_on, goes_on_behind_call, one_meaning, roots_in_turn};
+pub use aggregate_laws::{
+    aggregates_begin, aggregates_go_on, aggregates_need_worths, members_left,
+};
 pub use frame_laws::{frames_add_counts, frames_end, frames_go_on};
 pub use laws::{act_by_act, counts_add_up, counts_need_value, more_fuel};
 pub use worth_laws::{
