@@ -16,6 +16,7 @@ use Rattle.task_meaning.specs.FrameLaws.{WorthGives, HasWorth}
 use Rattle.task_meaning.specs.FrameCounts.{RestCounts}
 use Rattle.task_meaning.specs.AcceptedLaws.{IsAggregateAt}
 use Rattle.task_meaning.specs.AggregateLaws.{MembersGive, MembersCount, HaveWorths}
+use Rattle.task_meaning.proofs.Lists.{drop-at, drop-past, length-none}
 use Rattle.task_meaning.proofs.Ahead.{AllJumpAhead}
 use Rattle.task_meaning.proofs.FromRuns.{behind-ready, behind_all-ready}
 use Rattle.task_meaning.proofs.Worths.{aggregate-worth}
@@ -160,18 +161,6 @@ module _ (p : Program) (c : Columns) (accepted : List Accepted) where
       back : HaveWorths p c accepted members × (Number 0 ≡ v) → WorthGives p c accepted (suc position) v
       back (hs, s) = let (n, all) = all-waited p c accepted None members tt hs in (n, worth n ∙ value_of _ _ (all (gives (Number 0))) ∙ ap Some s)
 
--- the list from a position on begins with what stands there, and past the end it is empty
-drop-at : (xs : List ℕ) (next u : ℕ) → slice_get xs next ≡ Some u → (drop next xs ≡ u ∷ drop (suc next) xs) × (next < length xs)
-drop-at [] next u e = absurd (cc e)
-drop-at (x ∷ xs) zero u e = let s : x ≡ u = cc e in (ap (λ (y : ℕ). y ∷ xs) s, omega arith)
-drop-at (x ∷ xs) (suc next) u e = let (s, l) = drop-at xs next u e in (s, omega (arith, l))
-
-drop-past : (xs : List ℕ) (next : ℕ) → slice_get xs next ≡ None → (drop next xs ≡ []) × (length xs ≤ next)
-drop-past [] zero e = (refl, omega arith)
-drop-past [] (suc next) e = (refl, omega arith)
-drop-past (x ∷ xs) zero e = absurd (cc e)
-drop-past (x ∷ xs) (suc next) e = let (s, l) = drop-past xs next e in (s, omega (arith, l))
-
 module _ (P : ℕ → Type 0) where
   each-first : (u : ℕ) (xs : List ℕ) → P u → Each xs P → Each (u ∷ xs) P
   each-first u xs h hs zero x e = let s : u ≡ x = cc e in subst P s h
@@ -248,7 +237,7 @@ module _ (p : Program) (c : Columns) (accepted : List Accepted) where
 
   worths-none : (members : List ℕ) (next : ℕ) → slice_get members next ≡ None → HaveWorths p c accepted (drop next members)
   unfolding Worthy
-  worths-none members next e = subst (λ (xs : List ℕ). Each xs Worthy) (sym (drop-past members next e).0) (λ at t f. absurd (cc f))
+  worths-none members next e = subst (λ (xs : List ℕ). Each xs Worthy) (sym (drop-past members next (length-none members next e))) (λ at t f. absurd (cc f))
 
   pub members-end : (waits : Option ℕ) (members : List ℕ) (next : ℕ) (v : Value) → slice_get members next ≡ None → HasWorth p c accepted waits
       → MembersGive p c accepted waits members next v ↔ (Number 0 ≡ v)
@@ -260,7 +249,7 @@ module _ (p : Program) (c : Columns) (accepted : List Accepted) where
       → MembersCount p c accepted waits members next k ↔ (no_counts ≡ k)
   members-end_counts waits members next k e h =
       let here = members_left-counts p c accepted waits members next k in
-      let l : length members ≤ next = (drop-past members next e).1 in
+      let l : length members ≤ next = length-none members next e in
       let a : 0 ≡ length members - next = omega (arith, l) in
       let none : no_counts ≡ record { tasks = 0; activations = length members - next } = (λ i. record { tasks = 0; activations = a i }) in
       (λ g. none ∙ (here.0 g).2, λ s. here.1 (h, worths-none members next e, sym none ∙ s))

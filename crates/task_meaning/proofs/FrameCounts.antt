@@ -68,7 +68,7 @@ spawn-whole p c ahead n ws q to call x at held =
     ∙ ap (λ (m : Meant). with_child m (rest p c (suc n)) (place_in ws q) to) (behind-task ws q x held (mean p c n (call_with (future_at ws) call)))
 
 -- a child is given with its first frame, and one task and one activation more
-child-frame : (p : Program) (c : Columns) (n : ℕ) (ws : List (Option Value)) (call : CallOf ℕ)
+pub child-frame : (p : Program) (c : Columns) (n : ℕ) (ws : List (Option Value)) (call : CallOf ℕ)
     → mean p c n (call_with (future_at ws) call) ≡ adding (counted 1 1) (rest p c n (place_in ws (entry p call)))
 child-frame p c n ws call = ap (λ (r : Place). adding (counted 1 1) (rest p c n r)) (sym (entry-renamed (future_at ws) p call))
 

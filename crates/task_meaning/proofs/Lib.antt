@@ -19,3 +19,4 @@ pub mod FrameCounts
 pub mod FrameCountsOn
 pub mod AggregateRest
 pub mod RootTasks
+pub mod RootCounts

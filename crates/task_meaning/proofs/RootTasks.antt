@@ -1,4 +1,4 @@
--- The worth of a root's task is the root's value.
+-- The worth of a root's task is the root's value, and the root means what the task's call means.
 use Rattle.std.specs.Prelude.{◌≡◌, ℕ, zero, suc, ◌+◌, ◌<◌, ◌≤◌, min, Option, Some, None, List, [], ◌∷◌, ◌++◌, map, length, take, slice_get, IfSome}
 use Rattle.std.proofs.Common.{refl, sym, ap, ◌∙◌, arith}
 use Rattle.std.proofs.lemmas.List.{get_or-take, length-take}
@@ -17,10 +17,10 @@ use Rattle.task_meaning.specs.Roots.{root_number, root_future, root_call, values
 use Rattle.task_meaning.specs.Worths.{Accepted, worths}
 use Rattle.task_meaning.specs.RootLaws.{root_waits, HasTask, NamesTasks, IsRootTask, AreRootTasks}
 use Rattle.task_meaning.proofs.Lists.{length-snoc}
-use Rattle.task_meaning.proofs.RootsInTurn.{root-at, length-values}
+use Rattle.task_meaning.proofs.RootsInTurn.{root-meant, root-at, length-values}
 use Rattle.task_meaning.proofs.Worths.{call-worth}
 
-mean_roots-length : (p : Program) (c : Columns) (n : ℕ) (roots : List RootLine) (ms : List Meant) → length (mean_roots_from p c n ms roots) ≡ length ms + length roots
+pub mean_roots-length : (p : Program) (c : Columns) (n : ℕ) (roots : List RootLine) (ms : List Meant) → length (mean_roots_from p c n ms roots) ≡ length ms + length roots
 mean_roots-length p c n [] ms = omega arith
 mean_roots-length p c n (root ∷ roots) ms =
     let m : Meant = mean_root p c n (values_of ms) root in
@@ -62,63 +62,79 @@ waits-same ws own vs at known (Some r) (t, e) l m =
     ap (λ (o : Option ℕ). behind o ws m) e
     ∙ ap (λ (o : Option Value). with_value o (λ v. m)) (ap (renamed (future_at ws)) (sym e) ∙ known r l (t, e))
 
+-- A root with a task, where the roots before it are known: what it means is what the call of its task means.
+module _ (p : Program) (c : Columns) (n : ℕ) (accepted : List Accepted) (own : List (Option ℕ)) (formed : IsWellFormed p)
+    (at : ℕ) (root : RootLine) (t : ℕ) (e : slice_get p.roots at ≡ Some root) (is : IsRootTask accepted own root t) where
+  ws : List (Option Value)
+  ws = worths p c n accepted
+
+  vs : List (Option Value)
+  vs = take at (values_of (mean_roots p c n))
+
+  fits : length vs ≡ at
+  unfolding vs
+  fits =
+      let (r, f, b) = slice_get-before p.roots at root at e (omega arith) in
+      let all : length (mean_roots p c n) ≡ 0 + length p.roots = mean_roots-length p c n p.roots [] in
+      let same : length (values_of (mean_roots p c n)) ≡ length (mean_roots p c n) = length-values (mean_roots p c n) in
+      let taken : length vs ≡ min at (length (values_of (mean_roots p c n))) = length-take at (values_of (mean_roots p c n)) in
+      omega (arith, all, same, taken, b)
+
+  read : (r : ℕ) → r < at → future_at vs r ≡ root_value p c n r
+  unfolding vs
+  read r h = get_or-take at (values_of (mean_roots p c n)) r None h
+
+  root-is : slice_get (mean_roots p c n) at ≡ Some (mean_root p c n vs root)
+  root-is = ap (slice_get (mean_roots p c n)) (sym fits) ∙ root-meant p c n p.roots at root [] vs e (omega (arith, fits)) (λ j b. read j (omega (arith, b, fits)))
+
+  value-is : root_value p c n at ≡ (mean_root p c n vs root).value
+  value-is = ap (root_value p c n) (sym fits) ∙ root-at p c n p.roots at root [] vs e (omega (arith, fits)) (λ j b. read j (omega (arith, b, fits)))
+
+  -- what the call of the task means
+  called : Meant
+  called = behind (root_waits own root.behind) ws (mean p c n (call_with (future_at ws) (root_call own root)))
+
+  worth-is : future_at ws t ≡ called.value
+  unfolding ws called
+  worth-is = ap (future_at ws) is.follows ∙ call-worth p c n accepted is.before (root_call own root) (root_waits own root.behind) is.accepted_as is.earlier is.earlier_waits
+
+  known-before : ((r : ℕ) (other : RootLine) (s : ℕ) → r < at → slice_get p.roots r ≡ Some other → future_at own r ≡ Some s → future_at ws s ≡ root_value p c n r)
+      → KnownBefore ws own vs at
+  known-before smaller r b (s, f) =
+      let (other, g, far) = slice_get-before p.roots at root r e (omega (arith, b)) in
+      ap (renamed (future_at ws)) f ∙ smaller r other s b g f ∙ sym (read r b)
+
+  called-is : KnownBefore ws own vs at → called ≡ mean_root p c n vs root
+  unfolding called
+  called-is known =
+      let form : IsFormedRoot p at root = formed.roots at root e in
+      let futures = arguments-same ws own vs at known root.arguments is.arguments form.arguments in
+      let call_is : call_with (future_at ws) (root_call own root) ≡ root_call vs root
+      = (λ i. record { kind = root.kind; numbers = map root_number root.arguments; futures = futures i }) in
+      waits-same ws own vs at known root.behind is.waits form.behind (mean p c n (call_with (future_at ws) (root_call own root)))
+      ∙ ap (λ (k : Call). behind root.behind vs (mean p c n k)) call_is
+
 pub root-worth : (p : Program) (c : Columns) (n : ℕ) (accepted : List Accepted) (own : List (Option ℕ)) → IsWellFormed p → AreRootTasks p accepted own
     → (bound at : ℕ) (root : RootLine) (t : ℕ) → at < bound → slice_get p.roots at ≡ Some root → future_at own at ≡ Some t
     → future_at (worths p c n accepted) t ≡ root_value p c n at
+unfolding ws
 root-worth p c n accepted own formed tasks zero at root t l e o = absurd (omega (arith, l))
-root-worth p c n accepted own formed tasks (suc bound) at root t l e o = go (root-worth p c n accepted own formed tasks bound)
-  where
-    ws : List (Option Value)
-    ws = worths p c n accepted
+root-worth p c n accepted own formed tasks (suc bound) at root t l e o =
+    let is : IsRootTask accepted own root t = tasks at root t e o in
+    let known = known-before p c n accepted own formed at root t e is
+    (λ r other s b g f. root-worth p c n accepted own formed tasks bound r other s (omega (arith, b, l)) g f) in
+    worth-is p c n accepted own formed at root t e is
+    ∙ ap (λ (m : Meant). m.value) (called-is p c n accepted own formed at root t e is known)
+    ∙ sym (value-is p c n accepted own formed at root t e is)
 
-    values : List (Option Value)
-    values = values_of (mean_roots p c n)
-
-    vs : List (Option Value)
-    vs = take at values
-
-    fits : length vs ≡ at
-    fits =
-        let (r, f, b) = slice_get-before p.roots at root at e (omega arith) in
-        let all : length (mean_roots p c n) ≡ 0 + length p.roots = mean_roots-length p c n p.roots [] in
-        let same : length values ≡ length (mean_roots p c n) = length-values (mean_roots p c n) in
-        let taken : length vs ≡ min at (length values) = length-take at values in
-        omega (arith, all, same, taken, b)
-
-    read : (r : ℕ) → r < at → future_at vs r ≡ future_at values r
-    read r h = get_or-take at values r None h
-
-    is : IsRootTask accepted own root t
-    is = tasks at root t e o
-
-    form : IsFormedRoot p at root
-    form = formed.roots at root e
-
-    value_is : root_value p c n at ≡ (mean_root p c n vs root).value
-    value_is =
-        ap (root_value p c n) (sym fits)
-        ∙ root-at p c n p.roots at root [] vs e (omega (arith, fits)) (λ j b. read j (omega (arith, b, fits)))
-
-    worth_is : future_at ws t ≡ (behind (root_waits own root.behind) ws (mean p c n (call_with (future_at ws) (root_call own root)))).value
-    worth_is =
-        ap (future_at ws) (is.follows)
-        ∙ call-worth p c n accepted (is.before) (root_call own root) (root_waits own root.behind) (is.accepted_as) (is.earlier) (is.earlier_waits)
-
-    go : ((at' : ℕ) (root' : RootLine) (t' : ℕ) → at' < bound → slice_get p.roots at' ≡ Some root' → future_at own at' ≡ Some t'
-        → future_at (worths p c n accepted) t' ≡ root_value p c n at')
-        → future_at ws t ≡ root_value p c n at
-    go smaller =
-        worth_is
-        ∙ ap (λ (m : Meant). m.value) (waits-same ws own vs at known root.behind is.waits form.behind (mean p c n (call_with (future_at ws) (root_call own root))))
-        ∙ ap (λ (k : Call). (behind root.behind vs (mean p c n k)).value) call_is
-        ∙ sym value_is
-      where
-        known : KnownBefore ws own vs at
-        known r b (s, f) =
-            let (root', g, far) = slice_get-before p.roots at root r e (omega (arith, b)) in
-            ap (renamed (future_at ws)) f ∙ smaller r root' s (omega (arith, b, l)) g f ∙ sym (read r b)
-
-        call_is : call_with (future_at ws) (root_call own root) ≡ root_call vs root
-        call_is =
-            let futures = arguments-same ws own vs at known root.arguments is.arguments form.arguments in
-            λ i. record { kind = root.kind; numbers = map root_number root.arguments; futures = futures i }
+-- a root with a task means what the call of its task means
+pub root-task_meant : (p : Program) (c : Columns) (n : ℕ) (accepted : List Accepted) (own : List (Option ℕ)) → IsWellFormed p → AreRootTasks p accepted own
+    → (at : ℕ) (root : RootLine) (t : ℕ) → slice_get p.roots at ≡ Some root → future_at own at ≡ Some t
+    → slice_get (mean_roots p c n) at
+    ≡ Some (behind (root_waits own root.behind) (worths p c n accepted) (mean p c n (call_with (future_at (worths p c n accepted)) (root_call own root))))
+unfolding ws called
+root-task_meant p c n accepted own formed tasks at root t e o =
+    let is : IsRootTask accepted own root t = tasks at root t e o in
+    let known = known-before p c n accepted own formed at root t e is
+    (λ r other s b g f. root-worth p c n accepted own formed tasks (suc r) r other s (omega arith) g f) in
+    root-is p c n accepted own formed at root t e is ∙ ap Some (sym (called-is p c n accepted own formed at root t e is known))

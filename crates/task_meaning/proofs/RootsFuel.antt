@@ -1,5 +1,5 @@
 -- More fuel gives the roots the same values and the same counts.
-use Rattle.std.specs.Prelude.{ℕ, ◌≤◌, ⊤, Option, None, List, [], ◌∷◌, ◌++◌, map}
+use Rattle.std.specs.Prelude.{ℕ, zero, suc, ◌≤◌, ⊤, Option, None, List, [], ◌∷◌, ◌++◌, map, drop, slice_get}
 use Rattle.std.proofs.Common.{refl}
 use Rattle.task_syntax.specs.declared.value.Value.{Value}
 use Rattle.task_syntax.specs.declared.program.RootArgument.{RootArgument}
@@ -10,6 +10,7 @@ use Rattle.task_syntax.specs.declared.columns.Columns.{Columns}
 use Rattle.task_meaning.specs.Meant.{Meant}
 use Rattle.task_meaning.specs.Meaning.{rest}
 use Rattle.task_meaning.specs.Roots.{root_number, root_future, values_of, mean_root, mean_roots_from, all_counts, root_value, roots_counts}
+use Rattle.task_meaning.specs.RootCounts.{counts_in, root_counts, later_counts}
 use Rattle.task_meaning.proofs.Grows.{Stays, AllStay, AllStay-at, Within, Within-counted, Within-behind, Within-adding}
 use Rattle.task_meaning.proofs.Fuel.{entry-grows, rest-grows}
 
@@ -65,3 +66,24 @@ root_value-stays p c n m at e = AllStay-at _ _ at (values-stay _ _ (roots-within
 
 pub roots_counts-stay : (p : Program) (c : Columns) (n m : ℕ) → n ≤ m → Stays (roots_counts p c n) (roots_counts p c m)
 roots_counts-stay p c n m e = counts-within _ _ (roots-within p c n m e p.roots [] [] tt)
+
+counts-at : (ms ns : List Meant) → AllWithin ms ns → (position : ℕ) → Stays (counts_in (slice_get ms position)) (counts_in (slice_get ns position))
+counts-at [] [] h position = tt
+counts-at [] (b ∷ bs) h position = absurd h
+counts-at (a ∷ as_) [] h position = absurd h
+counts-at (a ∷ as_) (b ∷ bs) h zero = h.0.counts
+counts-at (a ∷ as_) (b ∷ bs) h (suc position) = counts-at as_ bs h.1 position
+
+within-from : (ms ns : List Meant) → AllWithin ms ns → (position : ℕ) → AllWithin (drop position ms) (drop position ns)
+within-from ms ns h zero = h
+within-from [] [] h (suc position) = tt
+within-from [] (b ∷ bs) h (suc position) = absurd h
+within-from (a ∷ as_) [] h (suc position) = absurd h
+within-from (a ∷ as_) (b ∷ bs) h (suc position) = within-from as_ bs h.1 position
+
+-- the counts of one root, and of the roots from a position on, stay with more fuel
+pub root_counts-stay : (p : Program) (c : Columns) (n m position : ℕ) → n ≤ m → Stays (root_counts p c n position) (root_counts p c m position)
+root_counts-stay p c n m position e = counts-at _ _ (roots-within p c n m e p.roots [] [] tt) position
+
+pub later_counts-stay : (p : Program) (c : Columns) (n m position : ℕ) → n ≤ m → Stays (later_counts p c n position) (later_counts p c m position)
+later_counts-stay p c n m position e = counts-within _ _ (within-from _ _ (roots-within p c n m e p.roots [] [] tt) position)

@@ -11,7 +11,7 @@ use Rattle.task_meaning.specs.Meaning.{mean, CallGives}
 use Rattle.task_meaning.specs.Roots.{root_call, values_of, mean_root, mean_roots_from, all_counts, root_value, RootGives, RootsCount}
 use Rattle.task_meaning.specs.Runs.{IsReady}
 use Rattle.task_meaning.specs.Leads.{no_counts, RootsCost}
-use Rattle.task_meaning.proofs.Lists.{map-snoc, length-snoc, future_at-snoc, future_at-last}
+use Rattle.task_meaning.proofs.Lists.{map-snoc, length-snoc}
 use Rattle.task_meaning.proofs.Grows.{Stays-at}
 use Rattle.task_meaning.proofs.RootsFuel.{root_value-stays}
 use Rattle.task_meaning.proofs.Complete.{plus_given, complete-behind, complete-mean}
@@ -34,40 +34,64 @@ same_futures {A} (x ∷ xs) (y ∷ ys) e h =
 
 -- later roots leave the earlier ones as they are
 earlier-stay : (p : Program) (c : Columns) (n : ℕ) (roots : List RootLine) (ms : List Meant) (at : ℕ) → at < length ms
-    → future_at (values_of (mean_roots_from p c n ms roots)) at ≡ future_at (values_of ms) at
+    → slice_get (mean_roots_from p c n ms roots) at ≡ slice_get ms at
 earlier-stay p c n [] ms at h = refl
 earlier-stay p c n (root ∷ roots) ms at h =
     let m : Meant = mean_root p c n (values_of ms) root in
     let longer : length (ms ++ m ∷ []) ≡ suc (length ms) = length-snoc ms m in
-    let same : length (values_of ms) ≡ length ms = length-values ms in
-    earlier-stay p c n roots (ms ++ m ∷ []) at (omega (arith, longer, h))
-    ∙ ap (λ (vs : List (Option Value)). future_at vs at) (map-snoc (λ (x : Meant). x.value) ms m)
-    ∙ future_at-snoc (values_of ms) m.value at (omega (arith, same, h))
+    earlier-stay p c n roots (ms ++ m ∷ []) at (omega (arith, longer, h)) ∙ slice_get-snoc ms m at h
+  where
+    slice_get-snoc : (xs : List Meant) (x : Meant) (i : ℕ) → i < length xs → slice_get (xs ++ x ∷ []) i ≡ slice_get xs i
+    slice_get-snoc [] x i l = absurd (omega (arith, l))
+    slice_get-snoc (y ∷ ys) x zero l = refl
+    slice_get-snoc (y ∷ ys) x (suc i) l = slice_get-snoc ys x i (omega (arith, l))
+
+slice_get-last : (xs : List Meant) (x : Meant) → slice_get (xs ++ x ∷ []) (length xs) ≡ Some x
+slice_get-last [] x = refl
+slice_get-last (y ∷ ys) x = slice_get-last ys x
+
+value_in : Option Meant → Option Value
+value_in None = None
+value_in (Some m) = m.value
+
+value-at : (ms : List Meant) (at : ℕ) → future_at (values_of ms) at ≡ value_in (slice_get ms at)
+unfolding value_in
+value-at [] at = refl
+value-at (m ∷ ms) zero = refl
+value-at (m ∷ ms) (suc at) = value-at ms at
 
 -- a root is called behind the values of those before it
+pub root-meant : (p : Program) (c : Columns) (n : ℕ) (roots : List RootLine) (at : ℕ) (root : RootLine) (ms : List Meant) (vs : List (Option Value))
+    → slice_get roots at ≡ Some root → length vs ≡ length ms + at
+    → ((j : ℕ) → j < length vs → future_at vs j ≡ future_at (values_of (mean_roots_from p c n ms roots)) j)
+    → slice_get (mean_roots_from p c n ms roots) (length vs) ≡ Some (mean_root p c n vs root)
+root-meant p c n [] at root ms vs e l h = absurd (cc e)
+root-meant p c n (r ∷ roots) zero root ms vs e l h =
+    let m : Meant = mean_root p c n (values_of ms) r in
+    let longer : length (ms ++ m ∷ []) ≡ suc (length ms) = length-snoc ms m in
+    let same : length (values_of ms) ≡ length ms = length-values ms in
+    let all : List Meant = mean_roots_from p c n ms (r ∷ roots) in
+    let vs_are : vs ≡ values_of ms = same_futures vs (values_of ms) (omega (arith, l, same))
+    (λ j b. h j b ∙ value-at all j ∙ ap value_in (earlier-stay p c n (r ∷ roots) ms j (omega (arith, b, l))) ∙ sym (value-at ms j)) in
+    let place : length vs ≡ length ms = omega (arith, l) in
+    let r_is : r ≡ root = cc e in
+    earlier-stay p c n roots (ms ++ m ∷ []) (length vs) (omega (arith, longer, l))
+    ∙ ap (slice_get (ms ++ m ∷ [])) place
+    ∙ slice_get-last ms m
+    ∙ ap (λ (ws : List (Option Value)). Some (mean_root p c n ws r)) (sym vs_are)
+    ∙ ap (λ (x : RootLine). Some (mean_root p c n vs x)) r_is
+root-meant p c n (r ∷ roots) (suc at) root ms vs e l h =
+    let m : Meant = mean_root p c n (values_of ms) r in
+    let longer : length (ms ++ m ∷ []) ≡ suc (length ms) = length-snoc ms m in
+    root-meant p c n roots at root (ms ++ m ∷ []) vs e (omega (arith, longer, l)) h
+
 pub root-at : (p : Program) (c : Columns) (n : ℕ) (roots : List RootLine) (at : ℕ) (root : RootLine) (ms : List Meant) (vs : List (Option Value))
     → slice_get roots at ≡ Some root → length vs ≡ length ms + at
     → ((j : ℕ) → j < length vs → future_at vs j ≡ future_at (values_of (mean_roots_from p c n ms roots)) j)
     → future_at (values_of (mean_roots_from p c n ms roots)) (length vs) ≡ (mean_root p c n vs root).value
-root-at p c n [] at root ms vs e l h = absurd (cc e)
-root-at p c n (r ∷ roots) zero root ms vs e l h =
-    let m : Meant = mean_root p c n (values_of ms) r in
-    let longer : length (ms ++ m ∷ []) ≡ suc (length ms) = length-snoc ms m in
-    let same : length (values_of ms) ≡ length ms = length-values ms in
-    let vs_are : vs ≡ values_of ms = same_futures vs (values_of ms) (omega (arith, l, same))
-    (λ j b. h j b ∙ earlier-stay p c n (r ∷ roots) ms j (omega (arith, b, l))) in
-    let place : length vs ≡ length (values_of ms) = ap length vs_are in
-    let r_is : r ≡ root = cc e in
-    earlier-stay p c n roots (ms ++ m ∷ []) (length vs) (omega (arith, longer, l))
-    ∙ ap (λ (ws : List (Option Value)). future_at ws (length vs)) (map-snoc (λ (x : Meant). x.value) ms m)
-    ∙ ap (future_at (values_of ms ++ m.value ∷ [])) place
-    ∙ future_at-last (values_of ms) m.value
-    ∙ ap (λ (ws : List (Option Value)). (mean_root p c n ws r).value) (sym vs_are)
-    ∙ ap (λ (x : RootLine). (mean_root p c n vs x).value) r_is
-root-at p c n (r ∷ roots) (suc at) root ms vs e l h =
-    let m : Meant = mean_root p c n (values_of ms) r in
-    let longer : length (ms ++ m ∷ []) ≡ suc (length ms) = length-snoc ms m in
-    root-at p c n roots at root (ms ++ m ∷ []) vs e (omega (arith, longer, l)) h
+unfolding value_in
+root-at p c n roots at root ms vs e l h =
+    value-at (mean_roots_from p c n ms roots) (length vs) ∙ ap value_in (root-meant p c n roots at root ms vs e l h)
 
 -- enough fuel for the values of all earlier roots
 fuel_for : (p : Program) (c : Columns) (from : ℕ) (earlier : List Value) → ((at : ℕ) (u : Value) → slice_get earlier at ≡ Some u → RootGives p c (from + at) u)

@@ -15,3 +15,4 @@ pub mod FrameCounts
 pub mod RootLaws
 pub mod AcceptedLaws
 pub mod AggregateLaws
+pub mod RootCounts

@@ -10,6 +10,7 @@ mod act_laws;
 mod aggregate_laws;
 mod frame_laws;
 mod laws;
+mod root_laws;
 mod worth_laws;
 
 pub use accepted_laws::{accepted_calls_add_counts, accepted_calls_keep_rest, retries_keep_rest};
@@ -19,6 +20,7 @@ pub use aggregate_laws::{
 };
 pub use frame_laws::{frames_add_counts, frames_end, frames_go_on};
 pub use laws::{act_by_act, counts_add_up, counts_need_value, more_fuel};
+pub use root_laws::{root_tasks_count, roots_left};
 pub use worth_laws::{
     acts_keep_under_names, rests_of_frames, root_tasks, worths_are_means, worths_stay,
 };
