@@ -1,5 +1,5 @@
 -- What an aggregate under way gives and counts, by the worths of its members.
-use Rattle.std.specs.Prelude.{◌≡◌, ℕ, zero, suc, ◌+◌, ◌-◌, ◌<◌, ◌≤◌, ◌⊎◌, ◌↔◌, Option, Some, None, List, [], ◌∷◌, map, length, take, drop, slice_get}
+use Rattle.std.specs.Prelude.{◌≡◌, ℕ, zero, suc, ◌+◌, ◌-◌, ◌<◌, ◌≤◌, ◌⊎◌, ◌↔◌, Option, Some, None, List, [], ◌∷◌, map, length, drop, slice_get}
 use Rattle.std.proofs.Common.{refl, sym, ap, subst, ◌∙◌, inl, inr, arith}
 use Rattle.task_syntax.specs.Places.{Each}
 use Rattle.task_syntax.specs.declared.value.Value.{Value}
@@ -15,7 +15,7 @@ use Rattle.task_meaning.specs.Leads.{no_counts}
 use Rattle.task_meaning.specs.FrameLaws.{WorthGives, HasWorth}
 use Rattle.task_meaning.specs.FrameCounts.{RestCounts}
 use Rattle.task_meaning.specs.AcceptedLaws.{IsAggregateAt}
-use Rattle.task_meaning.specs.AggregateLaws.{MembersGive, MembersCount, HaveWorths}
+use Rattle.task_meaning.specs.AggregateLaws.{MembersGive, MembersCount, HaveWorths, HaveWorthsBefore}
 use Rattle.task_meaning.proofs.Lists.{drop-at, drop-past, length-none}
 use Rattle.task_meaning.proofs.Ahead.{AllJumpAhead}
 use Rattle.task_meaning.proofs.FromRuns.{behind-ready, behind_all-ready}
@@ -171,18 +171,19 @@ module _ (P : ℕ → Type 0) where
   each-split (x ∷ xs) zero u e h = (h zero u e, λ at y f. h (suc at) y f)
   each-split (x ∷ xs) (suc next) u e h = each-split xs next u e (λ at y f. h (suc at) y f)
 
-  each-joined : (xs : List ℕ) (next u : ℕ) → slice_get xs next ≡ Some u → Each (take next xs) P → P u → Each (drop (suc next) xs) P → Each xs P
+  each-joined : (xs : List ℕ) (next u : ℕ) → slice_get xs next ≡ Some u → ((at x : ℕ) → at < next → slice_get xs at ≡ Some x → P x) → P u
+      → Each (drop (suc next) xs) P → Each xs P
   each-joined [] next u e earlier h later = absurd (cc e)
   each-joined (x ∷ xs) zero u e earlier h later = let s : u ≡ x = cc e in each-first x xs (subst P s h) later
   each-joined (x ∷ xs) (suc next) u e earlier h later =
-      each-first x xs (earlier zero x refl) (each-joined xs next u e (λ at y f. earlier (suc at) y f) h later)
+      each-first x xs (earlier zero x (omega arith) refl) (each-joined xs next u e (λ at y l f. earlier (suc at) y (omega (arith, l)) f) h later)
 
 module _ (p : Program) (c : Columns) (accepted : List Accepted) where
   Worthy : ℕ → Type 0
   Worthy t = HasWorth p c accepted (Some t)
 
   pub members-worth : (position : ℕ) (members : List ℕ) (next u : ℕ) (v : Value)
-      → IsAggregateAt accepted position members → HaveWorths p c accepted (take next members) → slice_get members next ≡ Some u
+      → IsAggregateAt accepted position members → HaveWorthsBefore p c accepted next members → slice_get members next ≡ Some u
       → WorthGives p c accepted (suc position) v ↔ MembersGive p c accepted (Some u) members (suc next) v
   unfolding Worthy
   members-worth position members next u v is earlier e =
@@ -274,7 +275,7 @@ module _ (p : Program) (c : Columns) (accepted : List Accepted) where
             let (h, later, t) = (left i).0 m in
             line.1 (
               j,
-              worth.1 (each-joined Worthy tasks 0 u e (λ i t f. absurd (cc f)) h later, refl),
+              worth.1 (each-joined Worthy tasks 0 u e (λ i t l f. absurd (omega (arith, l))) h later, refl),
               r,
               s ∙ ap (λ (x : Counts). total first (total x j)) (sym t) ∙ sym (adds_up j),
             ),

@@ -20,3 +20,4 @@ pub mod FrameCountsOn
 pub mod AggregateRest
 pub mod RootTasks
 pub mod RootCounts
+pub mod HeldFutures

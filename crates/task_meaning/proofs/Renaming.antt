@@ -44,7 +44,7 @@ module _ {A B : Type 0} (name : A → Option B) where
   append-renamed [] gs = refl
   append-renamed (f ∷ fs) gs = ap (λ hs. renamed name f ∷ hs) (append-renamed fs gs)
 
-  length-renamed : (fs : List (Option A)) → length (map (renamed name) fs) ≡ length fs
+  pub length-renamed : (fs : List (Option A)) → length (map (renamed name) fs) ≡ length fs
   length-renamed [] = refl
   length-renamed (f ∷ fs) = ap suc (length-renamed fs)
 

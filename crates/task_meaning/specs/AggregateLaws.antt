@@ -1,5 +1,5 @@
 -- An aggregate under way: what it still gives, and how many activations it still counts.
-use Rattle.std.specs.Prelude.{◌≡◌, ℕ, suc, ◌-◌, ◌↔◌, Option, Some, None, List, map, length, take, drop, slice_get}
+use Rattle.std.specs.Prelude.{◌≡◌, ℕ, suc, ◌-◌, ◌<◌, ◌↔◌, Option, Some, None, List, map, length, drop, slice_get}
 use Rattle.task_syntax.specs.Places.{Each}
 use Rattle.task_syntax.specs.Form.{IsWellFormed}
 use Rattle.task_syntax.specs.declared.value.Value.{Value}
@@ -33,6 +33,10 @@ MembersCount p c accepted waits members next k = (n : ℕ) × ((rest_of_members 
 abbrev pub HaveWorths : Program → Columns → List Accepted → List ℕ → Type 0
 HaveWorths p c accepted tasks = Each tasks (λ t. HasWorth p c accepted (Some t))
 
+-- each of the tasks before a position has a worth
+abbrev pub HaveWorthsBefore : Program → Columns → List Accepted → ℕ → List ℕ → Type 0
+HaveWorthsBefore p c accepted position tasks = (at t : ℕ) → at < position → slice_get tasks at ≡ Some t → HasWorth p c accepted (Some t)
+
 -- an aggregate is worth 0, and that exactly where each member has a worth
 abbrev pub AggregatesNeedAllWorths : Type 0
 AggregatesNeedAllWorths = (p : Program) (c : Columns) (accepted : List Accepted) (position : ℕ) (members : List ℕ) (v : Value)
@@ -43,7 +47,7 @@ AggregatesNeedAllWorths = (p : Program) (c : Columns) (accepted : List Accepted)
 -- and then has the later ones to wait for.
 abbrev pub MembersGiveWorth : Type 0
 MembersGiveWorth = (p : Program) (c : Columns) (accepted : List Accepted) (position : ℕ) (members : List ℕ) (next u : ℕ) (v : Value)
-    → IsAggregateAt accepted position members → HaveWorths p c accepted (take next members) → slice_get members next ≡ Some u
+    → IsAggregateAt accepted position members → HaveWorthsBefore p c accepted next members → slice_get members next ≡ Some u
     → WorthGives p c accepted (suc position) v ↔ MembersGive p c accepted (Some u) members (suc next) v
 
 -- an aggregate under way needs the worths that are missing, and counts one activation for each member that is left

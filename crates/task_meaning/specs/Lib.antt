@@ -16,3 +16,4 @@ pub mod RootLaws
 pub mod AcceptedLaws
 pub mod AggregateLaws
 pub mod RootCounts
+pub mod HeldLaws

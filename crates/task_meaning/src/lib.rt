@@ -9,6 +9,7 @@ mod accepted_laws;
 mod act_laws;
 mod aggregate_laws;
 mod frame_laws;
+mod held_laws;
 mod laws;
 mod root_laws;
 mod worth_laws;
@@ -19,6 +20,7 @@ pub use aggregate_laws::{
     aggregates_begin, aggregates_go_on, aggregates_need_worths, members_left,
 };
 pub use frame_laws::{frames_add_counts, frames_end, frames_go_on};
+pub use held_laws::held_futures_alone_matter;
 pub use laws::{act_by_act, counts_add_up, counts_need_value, more_fuel};
 pub use root_laws::{root_tasks_count, roots_left};
 pub use worth_laws::{
