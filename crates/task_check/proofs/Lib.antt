@@ -9,3 +9,4 @@ pub mod Passing
 pub mod RootFaults
 pub mod StateFaults
 pub mod Sound
+pub mod HandedOver

@@ -79,12 +79,12 @@ unlacked kind xs P within stable none i x e = stable x (within i x e) (λ no_p.
 lacks-absurd : (kind : Kind) (xs : List ℕ) (P : ℕ → Type 0) (position : ℕ) (name : List ℕ) → Each xs P → Lacks kind xs P position name → ⊥
 lacks-absurd kind xs P position name each l = l.5 (each position l.0 l.2)
 
-at-has : (xs : List ℕ) (j x : ℕ) → slice_get xs j ≡ Some x → has x xs ≡ true
+pub at-has : (xs : List ℕ) (j x : ℕ) → slice_get xs j ≡ Some x → has x xs ≡ true
 at-has [] j x e = cc
 at-has (y ∷ ys) zero x e = has-first x y ys (sym (same-some (Some y) y x refl e))
 at-has (y ∷ ys) (suc j) x e = has-rest x y ys (at-has ys j x e)
 
-has-at : (xs : List ℕ) (x : ℕ) → has x xs ≡ true → (j : ℕ) × (slice_get xs j ≡ Some x)
+pub has-at : (xs : List ℕ) (x : ℕ) → has x xs ≡ true → (j : ℕ) × (slice_get xs j ≡ Some x)
 has-at [] x h = cc
 has-at (y ∷ ys) x h = elim (cases_eq x y) [
   | inl e ↦ (zero, ap (λ n. Some n) (sym e))

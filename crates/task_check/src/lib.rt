@@ -13,5 +13,8 @@ mod set;
 mod state;
 
 pub use fault::{Cause, CheckError};
-pub use laws::{asked_is_there, each_place_has_way, valid_is_faultless};
+pub use laws::{
+    asked_is_there, each_place_has_way, handed_over_is_held, handed_over_is_settled,
+    valid_is_faultless,
+};
 pub use program::check;
