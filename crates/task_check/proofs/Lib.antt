@@ -10,3 +10,4 @@ pub mod RootFaults
 pub mod StateFaults
 pub mod Sound
 pub mod HandedOver
+pub mod KnownHeld

@@ -96,3 +96,9 @@ abbrev pub RespawnsHandOverHeld : Type 0
 RespawnsHandOverHeld = (p : Program) → IsWellFormed p → IsValid p → (kind : Kind) (state : State) → IsStateOf p kind state
     → (at : ℕ) (target : State) (behind : Option ℕ) → IsRespawnAt kind state at target behind
     → (f : Facts) → Way state at f → Each target.holds (λ x. IsTrue (has x f.held))
+
+-- on each way what is settled is held, and so is each member, with the future that it is a member of
+abbrev pub WhatIsKnownIsHeld : Type 0
+WhatIsKnownIsHeld = (p : Program) → IsWellFormed p → IsValid p → (kind : Kind) (state : State) → IsStateOf p kind state → (at : ℕ) (f : Facts) → Way state at f
+    → ((x : ℕ) → IsTrue (has x f.settled) → IsTrue (has x f.held))
+    × ((g x : ℕ) → IsTrue (has x (members_of g f.members)) → IsTrue (has g f.held) × IsTrue (has x f.held))

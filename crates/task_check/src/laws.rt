@@ -1,4 +1,4 @@
-ghost use Rattle.task_check.specs.Laws.{EachPlaceHasWay, AskedIsThere, ValidIsFaultless, SpawnsHandOverSettled, RespawnsHandOverSettled, RootsHandOverPredecessor, SpawnsHandOverHeld, RespawnsHandOverHeld};
+ghost use Rattle.task_check.specs.Laws.{EachPlaceHasWay, AskedIsThere, ValidIsFaultless, SpawnsHandOverSettled, RespawnsHandOverSettled, RootsHandOverPredecessor, SpawnsHandOverHeld, RespawnsHandOverHeld, WhatIsKnownIsHeld};
 
 /// The law that a way leads to each place of a well-formed state. It does nothing when it runs.
 pub fn each_place_has_way()
@@ -23,6 +23,12 @@ pub fn handed_over_is_settled()
 pub fn handed_over_is_held()
     ensures spawn { SpawnsHandOverHeld }
     ensures respawn { RespawnsHandOverHeld }
+{}
+
+/// The law that on each way in a valid program what is settled, or a member, is held. It does
+/// nothing when it runs.
+pub fn known_is_held()
+    ensures { WhatIsKnownIsHeld }
 {}
 
 /// The law that a well-formed program is valid exactly where it has no fault. It does nothing when it runs.

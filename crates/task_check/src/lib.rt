@@ -14,7 +14,7 @@ mod state;
 
 pub use fault::{Cause, CheckError};
 pub use laws::{
-    asked_is_there, each_place_has_way, handed_over_is_held, handed_over_is_settled,
+    asked_is_there, each_place_has_way, handed_over_is_held, handed_over_is_settled, known_is_held,
     valid_is_faultless,
 };
 pub use program::check;
