@@ -87,6 +87,7 @@ lines-past p c less [] at q e = refl
 lines-past p c less (l ∷ more) zero q e = absurd (cc e)
 lines-past p c less (l ∷ more) (suc at) q e = lines-past p c less more at q e
 
+-- what follows from a place at a line is what follows the line's act
 pub rest-follows : (p : Program) (c : Columns) (n : ℕ) (q : Place) (line : Line) → slice_get (code_at p q.kind q.state) q.at ≡ Some line
     → JumpsAhead q.at line.instr → rest p c (suc n) q ≡ followed p c n (act_of c line.instr q) q
 rest-follows p c n q line e ahead =
@@ -95,6 +96,7 @@ rest-follows p c n q line e ahead =
     ∙ instr-follows p c (rest p c n) (lines_mean p c (rest p c n) (drop (suc q.at) code)) (rest p c (suc n)) line.instr q ahead
     (λ skip at numbers futures s. lines-drop p c (rest p c n) code (suc q.at) skip at (place_of q.kind q.state at numbers futures) (omega (arith, s)))
 
+-- past the last line nothing is given
 pub rest-past : (p : Program) (c : Columns) (n : ℕ) (q : Place) → slice_get (code_at p q.kind q.state) q.at ≡ None → rest p c n q ≡ nothing
 rest-past p c zero q e = refl
 rest-past p c (suc n) q e = lines-past p c (rest p c n) (code_at p q.kind q.state) q.at q e

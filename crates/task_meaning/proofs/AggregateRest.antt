@@ -101,6 +101,7 @@ left-given left =
     λ i. given (Number 0) (record { tasks = t i; activations = a i })
 
 module _ (p : Program) (c : Columns) (accepted : List Accepted) where
+  -- an aggregate under way gives 0, exactly where what it waits for has worths
   pub members_left-value : (waits : Option ℕ) (members : List ℕ) (next : ℕ) (v : Value)
       → MembersGive p c accepted waits members next v
       ↔ (HasWorth p c accepted waits × HaveWorths p c accepted (drop next members) × (Number 0 ≡ v))
@@ -119,6 +120,7 @@ module _ (p : Program) (c : Columns) (accepted : List Accepted) where
       back : HasWorth p c accepted waits × HaveWorths p c accepted (drop next members) × (Number 0 ≡ v) → MembersGive p c accepted waits members next v
       back (h, hs, s) = let (n, all) = all-waited p c accepted waits (drop next members) h hs in (n, value_of _ _ (all m) ∙ ap Some s)
 
+  -- it counts one activation for each member that is left, exactly where these have worths
   pub members_left-counts : (waits : Option ℕ) (members : List ℕ) (next : ℕ) (k : Counts)
       → MembersCount p c accepted waits members next k
       ↔ (HasWorth p c accepted waits × HaveWorths p c accepted (drop next members) × (record { tasks = 0; activations = length members - next } ≡ k))
@@ -144,6 +146,7 @@ module _ (p : Program) (c : Columns) (accepted : List Accepted) where
           let (n, all) = all-waited p c accepted waits (drop next members) h hs in
           (n, counts_in _ m (all m) ∙ counts_in m (given (Number 0) left) (left-given (length members - next)) ∙ ap Some s)
 
+  -- an accepted aggregate is worth 0, exactly where each member has a worth
   pub aggregate-worths : (position : ℕ) (members : List ℕ) (v : Value) → IsAggregateAt accepted position members
       → WorthGives p c accepted (suc position) v ↔ (HaveWorths p c accepted members × (Number 0 ≡ v))
   unfolding WaitsForAll
@@ -182,6 +185,7 @@ module _ (p : Program) (c : Columns) (accepted : List Accepted) where
   Worthy : ℕ → Type 0
   Worthy t = HasWorth p c accepted (Some t)
 
+  -- behind the next member it gives what its call gives, where the members before have worths
   pub members-worth : (position : ℕ) (members : List ℕ) (next u : ℕ) (v : Value)
       → IsAggregateAt accepted position members → HaveWorthsBefore p c accepted next members → slice_get members next ≡ Some u
       → WorthGives p c accepted (suc position) v ↔ MembersGive p c accepted (Some u) members (suc next) v
@@ -202,6 +206,7 @@ module _ (p : Program) (c : Columns) (accepted : List Accepted) where
         λ h. subst (λ (xs : List ℕ). Each xs Worthy) (sym s) (each-first Worthy u (drop (suc next) members) h.0 h.1),
       )
 
+  -- it gives the same behind its next member
   pub members-next : (waits : Option ℕ) (members : List ℕ) (next u : ℕ) (v : Value) → slice_get members next ≡ Some u → HasWorth p c accepted waits
       → MembersGive p c accepted waits members next v ↔ MembersGive p c accepted (Some u) members (suc next) v
   members-next waits members next u v e h =
@@ -212,6 +217,7 @@ module _ (p : Program) (c : Columns) (accepted : List Accepted) where
         λ g. let (w, later, s) = there.0 g in here.1 (h, step.1 (w, later), s),
       )
 
+  -- going on behind its next member counts one activation
   pub members-next_counts : (waits : Option ℕ) (members : List ℕ) (next u : ℕ) (k : Counts) → slice_get members next ≡ Some u → HasWorth p c accepted waits
       → MembersCount p c accepted waits members next k
       ↔ ((j : Counts) × MembersCount p c accepted (Some u) members (suc next) j × (k ≡ total (record { tasks = 0; activations = 1 }) j))
@@ -240,12 +246,14 @@ module _ (p : Program) (c : Columns) (accepted : List Accepted) where
   unfolding Worthy
   worths-none members next e = subst (λ (xs : List ℕ). Each xs Worthy) (sym (drop-past members next (length-none members next e))) (λ at t f. absurd (cc f))
 
+  -- without a further member it gives 0
   pub members-end : (waits : Option ℕ) (members : List ℕ) (next : ℕ) (v : Value) → slice_get members next ≡ None → HasWorth p c accepted waits
       → MembersGive p c accepted waits members next v ↔ (Number 0 ≡ v)
   members-end waits members next v e h =
       let here = members_left-value p c accepted waits members next v in
       (λ g. (here.0 g).2, λ s. here.1 (h, worths-none members next e, s))
 
+  -- without a further member it counts no more
   pub members-end_counts : (waits : Option ℕ) (members : List ℕ) (next : ℕ) (k : Counts) → slice_get members next ≡ None → HasWorth p c accepted waits
       → MembersCount p c accepted waits members next k ↔ (no_counts ≡ k)
   members-end_counts waits members next k e h =
@@ -255,6 +263,7 @@ module _ (p : Program) (c : Columns) (accepted : List Accepted) where
       let none : no_counts ≡ record { tasks = 0; activations = length members - next } = (λ i. record { tasks = 0; activations = a i }) in
       (λ g. none ∙ (here.0 g).2, λ s. here.1 (h, worths-none members next e, sym none ∙ s))
 
+  -- the line of an aggregate counts a task, an activation, the aggregate behind its first member, and the next frame
   pub members-begin : AllJumpAhead p → (position : ℕ) (waits : Option ℕ) (q : FrameOf ℕ) (to : ℕ) (members tasks : List ℕ) (u : ℕ) (k : Counts)
       → ActsAt p c q (Gathers to members) → map (future_at q.futures) members ≡ map Some tasks → IsAggregateAt accepted position tasks → slice_get tasks 0 ≡ Some u
       → RestCounts p c accepted waits q k

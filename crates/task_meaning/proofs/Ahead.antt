@@ -24,6 +24,7 @@ instr-ahead p k s at (If relation left right target) h to e = subst (λ (t : ℕ
 instr-ahead p k s at (Goto target) h to e = subst (λ (t : ℕ). at < t) e h.0
 instr-ahead p k s at _ h to e = absurd e
 
+-- in a well-formed program each jump goes ahead
 pub jumps_ahead : (p : Program) → IsWellFormed p → AllJumpAhead p
 jumps_ahead p formed kind state at line e = in_kind (slice_get p.kinds kind) (λ k x. formed.kinds kind k x) e
   where
@@ -49,6 +50,7 @@ branch-ahead : {A : Type 0} (q : FrameOf A) (b : Bool) (target : ℕ) → q.at <
 branch-ahead q true target e = (refl, refl, e)
 branch-ahead q false target e = (refl, refl, omega arith)
 
+-- an instruction that jumps ahead at most steps to a later line
 pub act-ahead : {A : Type 0} (c : Columns) (instr : Instr) (q : FrameOf A) → JumpsAhead q.at instr → StepsAhead q (act_of c instr q)
 act-ahead c (Set to value) q h = (refl, refl, omega arith)
 act-ahead c (Math op to left right) q h = number-ahead q (computed op (operand q.numbers left) (operand q.numbers right)) to

@@ -13,12 +13,15 @@ use Rattle.task_meaning.specs.Frame.{Place, Call, code_at, entry, enter, set_fut
 use Rattle.task_meaning.specs.Arithmetic.{computed, compares, cell_at}
 use Rattle.task_meaning.specs.Meaning.{child_of, aggregate_of, instr_means, lines_mean, rest, mean}
 
+-- where counts are given, a value is
 abbrev pub IsComplete : Meant → Type 0
 IsComplete m = (k : Counts) → m.counts ≡ Some k → (v : Value) × (m.value ≡ Some v)
 
+-- nothing is complete
 pub complete-nothing : IsComplete nothing
 complete-nothing k e = absurd (cc e)
 
+-- a value at once is complete
 pub complete-gives : (v : Value) → IsComplete (gives v)
 complete-gives v k e = (v, refl)
 
@@ -29,6 +32,7 @@ plus_given None b k e = absurd (cc e)
 plus_given (Some i) None k e = absurd (cc e)
 plus_given (Some i) (Some j) k e = (i, j, refl, refl, cc e)
 
+-- more counts leave it complete
 pub complete-adding : (more : Option Counts) (m : Meant) → IsComplete m → IsComplete (adding more m)
 complete-adding more m h k e = let (i, j, a, b, s) = plus_given more m.counts k e in h j b
 
@@ -40,10 +44,12 @@ complete_with_number : (v : Value) (go : ℕ → Meant) → ((n : ℕ) → IsCom
 complete_with_number (Number n) go h = h n
 complete_with_number (Trapped t) go h = complete-gives (Trapped t)
 
+-- what is complete is so behind a future
 pub complete-behind : (waits : Option ℕ) (futures : List (Option Value)) (m : Meant) → IsComplete m → IsComplete (behind waits futures m)
 complete-behind None futures m h = h
 complete-behind (Some x) futures m h = complete_with_value (future_at futures x) (λ v. m) (λ v. h)
 
+-- what is complete is so behind several futures
 pub complete-behind_all : (members : List ℕ) (futures : List (Option Value)) (m : Meant) → IsComplete m → IsComplete (behind_all members futures m)
 complete-behind_all [] futures m h = h
 complete-behind_all (x ∷ more) futures m h = complete-behind (Some x) futures (behind_all more futures m) (complete-behind_all more futures m h)
@@ -80,16 +86,20 @@ complete_lines p c less l [] skip q = complete-nothing
 complete_lines p c less l (line ∷ more) (suc skip) q = complete_lines p c less l more skip q
 complete_lines p c less l (line ∷ more) zero q = complete_instr p c less (lines_mean p c less more) l (complete_lines p c less l more) line.instr q
 
+-- what follows from a place is complete
 pub complete-rest : (p : Program) (c : Columns) (n : ℕ) (q : Place) → IsComplete (rest p c n q)
 complete-rest p c zero q = complete-nothing
 complete-rest p c (suc n) q = complete_lines p c (rest p c n) (complete-rest p c n) (code_at p q.kind q.state) q.at q
 
+-- what a call means is complete
 pub complete-mean : (p : Program) (c : Columns) (n : ℕ) (call : Call) → IsComplete (mean p c n call)
 complete-mean p c n call = complete-adding (counted 1 1) (rest p c n (entry p call)) (complete-rest p c n (entry p call))
 
+-- what the child of a spawn means is complete
 pub complete-child : (p : Program) (c : Columns) (n : ℕ) (waits : Option ℕ) (call : Call) (futures : List (Option Value)) → IsComplete (child_of p (rest p c n) waits call futures)
 complete-child p c n waits call futures = complete-behind waits futures (mean p c n call) (complete-mean p c n call)
 
+-- what an aggregate means is complete
 pub complete-aggregate : (members : List ℕ) (futures : List (Option Value)) → IsComplete (aggregate_of members futures)
 complete-aggregate members futures =
     let one : Meant = adding (counted 1 (length members)) (gives (Number 0)) in

@@ -23,12 +23,15 @@ use Rattle.task_meaning.proofs.Renaming.{entry-renamed}
 use Rattle.task_meaning.proofs.Worths.{worths-stay, AllStay-named, call-within, later-rest, acts-in}
 use Rattle.task_meaning.proofs.Frames.{call-worth_at, next-rest, last-call, behind-task, value_of}
 
+-- equal meanings have equal counts
 pub counts_in : (m more : Meant) → m ≡ more → m.counts ≡ more.counts
 counts_in m more e = ap (λ (r : Meant). r.counts) e
 
+-- what has a value and counts keeps both where it grows
 pub within-given : (m more : Meant) (v : Value) (k : Counts) → Within m more → m ≡ given v k → more ≡ given v k
 within-given m more v k w e = given-by more v k (Stays-at _ _ w.value v (value_of _ _ e)) (Stays-at _ _ w.counts k (counts_in _ _ e))
 
+-- the place of a frame gives more where more worths are known and more fuel is left
 pub place-within : (p : Program) (c : Columns) (n m : ℕ) → n ≤ m → (ws vs : List (Option Value)) → AllStay ws vs → (q : FrameOf ℕ)
     → Within (rest p c n (place_in ws q)) (rest p c m (place_in vs q))
 place-within p c n m e ws vs h q = rest-grows p c n m e q.kind q.state q.at q.numbers _ _ (AllStay-named ws vs h q.futures)
@@ -42,6 +45,7 @@ set-within p c n m e ws vs h q to o =
     keep None = tt
     keep (Some v) = refl
 
+-- what follows from a frame grows with the fuel
 pub rest_of-within : (p : Program) (c : Columns) (n m : ℕ) → n ≤ m → (accepted : List Accepted) (waits : Option ℕ) (q : FrameOf ℕ)
     → Within (rest_of p c n accepted waits q) (rest_of p c m accepted waits q)
 rest_of-within p c n m e accepted waits q =
@@ -167,6 +171,7 @@ grown-counts p c accepted a waits q k names = (
   λ g. (g.0, sym (counts_in _ _ (later-rest p c g.0 accepted (a ∷ []) waits q names.0 names.1)) ∙ g.1),
 )
 
+-- at a spawn whose call is accepted now
 pub spawns-counts : (p : Program) (c : Columns) → AllJumpAhead p → (accepted : List Accepted) (waits : Option ℕ) (q : FrameOf ℕ) (to : ℕ) (call : CallOf ℕ) (x : Option ℕ) (k : Counts)
     → NamesAccepted accepted waits q → ActsAt p c q (Calls to call x) → NamesTask q x
     → RestCounts p c accepted waits q k

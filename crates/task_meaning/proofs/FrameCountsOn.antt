@@ -28,10 +28,12 @@ use Rattle.task_meaning.proofs.Frames.{aggregate-worth_at, next-rest, last-aggre
 use Rattle.task_meaning.proofs.FrameEnds.{ready-from, worth-later, read-acts, named-at, enter-names}
 use Rattle.task_meaning.proofs.FrameCounts.{counts_in, within-given, place-within, rest_of-within, whole, grown-counts}
 
+-- more fuel gives a frame the same counts
 pub counts-later : (p : Program) (c : Columns) (n m : ℕ) (accepted : List Accepted) (waits : Option ℕ) (q : FrameOf ℕ) (k : Counts) → n ≤ m
     → (rest_of p c n accepted waits q).counts ≡ Some k → (rest_of p c m accepted waits q).counts ≡ Some k
 counts-later p c n m accepted waits q k l e = Stays-at _ _ (rest_of-within p c n m l accepted waits q).counts k e
 
+-- a read of a task that is worth a number counts nothing
 pub reads-counts : (p : Program) (c : Columns) → AllJumpAhead p → (accepted : List Accepted) (waits : Option ℕ) (q : FrameOf ℕ) (to x t i : ℕ) (k : Counts)
     → ActsAt p c q (Reads to x) → future_at q.futures x ≡ Some t → WorthGives p c accepted t (Number i)
     → RestCounts p c accepted waits q k ↔ RestCounts p c accepted waits (set_number q to i) k
@@ -57,6 +59,7 @@ no-more p c accepted waits q k m h = (forth, λ s. (suc m, h m (omega arith) ∙
         let f : Some no_counts ≡ Some k = sym (h (n + m) (omega arith)) ∙ counts-later p c n (suc (n + m)) accepted waits q k (omega arith) e in
         cc f
 
+-- where a task ends by its own act, no more is counted
 pub ends-counts_rest : (p : Program) (c : Columns) → AllJumpAhead p → (accepted : List Accepted) (waits : Option ℕ) (q : FrameOf ℕ) (w : Value) (k : Counts)
     → ActsAt p c q (Finishes w) → HasWorth p c accepted waits → RestCounts p c accepted waits q k ↔ (no_counts ≡ k)
 ends-counts_rest p c ahead accepted waits q w k at h =
@@ -65,6 +68,7 @@ ends-counts_rest p c ahead accepted waits q w k at h =
     counts_in _ _ (ready (suc n) (omega (arith, l)) (rest p c (suc n) (place_in (worths p c (suc n) accepted) q))
     ∙ rest-acts p c n _ (Finishes w) ahead (acts-in p c (worths p c (suc n) accepted) q (Finishes w) at)))
 
+-- where a task ends by a trap that it reads, no more is counted
 pub traps-counts_rest : (p : Program) (c : Columns) → AllJumpAhead p → (accepted : List Accepted) (waits : Option ℕ) (q : FrameOf ℕ) (to x t : ℕ) (w : Value) (k : Counts)
     → ActsAt p c q (Reads to x) → future_at q.futures x ≡ Some t → WorthGives p c accepted t w → IsTrap w → HasWorth p c accepted waits
     → RestCounts p c accepted waits q k ↔ (no_counts ≡ k)
@@ -132,6 +136,7 @@ pub accepted_respawns-counts : (p : Program) (c : Columns) → AllJumpAhead p �
 accepted_respawns-counts p c ahead accepted waits q target x k at held h =
     (respawn-forth p c ahead accepted waits q target x at held k, respawn-back p c ahead accepted waits q target x at held h k)
 
+-- at a respawn that is accepted now
 pub respawns-counts : (p : Program) (c : Columns) → AllJumpAhead p → (accepted : List Accepted) (waits : Option ℕ) (q : FrameOf ℕ) (target task : ℕ) (x : Option ℕ) (k : Counts)
     → NamesAccepted accepted waits q → ActsAt p c q (Respawns target x) → NamesTask q x → HasWorth p c accepted waits
     → RestCounts p c accepted waits q k
@@ -265,6 +270,7 @@ accepted_aggregates-counts p c ahead accepted position waits q to members tasks 
   aggregate-back p c ahead accepted position waits q to members tasks at named is k,
 )
 
+-- at an aggregate that is accepted now
 pub aggregates-counts : (p : Program) (c : Columns) → AllJumpAhead p → (accepted : List Accepted) (waits : Option ℕ) (q : FrameOf ℕ) (to : ℕ) (members tasks : List ℕ) (k : Counts)
     → NamesAccepted accepted waits q → ActsAt p c q (Gathers to members) → map (future_at q.futures) members ≡ map Some tasks
     → RestCounts p c accepted waits q k

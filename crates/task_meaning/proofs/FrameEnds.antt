@@ -50,6 +50,7 @@ with_value-value : (o : Option Value) (m more : Meant) → m.value ≡ more.valu
 with_value-value None m more e = refl
 with_value-value (Some v) m more e = e
 
+-- waiting for the variables of a place is waiting for the tasks that they name
 pub members-named : (ws : List (Option Value)) (fs : List (Option ℕ)) (members tasks : List ℕ) → map (future_at fs) members ≡ map Some tasks
     → (m more : Meant) → m.value ≡ more.value → (behind_all members (map (renamed (future_at ws)) fs) m).value ≡ (behind_all tasks ws more).value
 members-named ws fs [] [] e m more s = s
@@ -82,6 +83,7 @@ accepted_aggregates-rest p c ahead accepted position waits q to members tasks v 
         (acts ∙ ap (λ (o : Option Value). (rest p c (suc n) (set_future (place_in ws q) to o)).value) zero_of)
         ∙ sym (value_of _ _ (next-rest p c (suc n) accepted position (OfAll tasks) (aggregate-worth_at p c accepted position tasks is) waits q to))
 
+-- after an aggregate that is accepted now
 pub aggregates-rest : (p : Program) (c : Columns) → AllJumpAhead p → (accepted : List Accepted) (waits : Option ℕ) (q : FrameOf ℕ) (to : ℕ) (members tasks : List ℕ) (v : Value)
     → NamesAccepted accepted waits q → ActsAt p c q (Gathers to members) → map (future_at q.futures) members ≡ map Some tasks
     → RestGives p c accepted waits q v ↔ RestGives p c (accepted ++ OfAll tasks ∷ []) waits (set_future q to (Some (suc (length accepted)))) v
@@ -91,6 +93,7 @@ aggregates-rest p c ahead accepted waits q to members tasks v names at named =
     (last-aggregate accepted q members tasks names.0 named) in
     (λ g. both.0 (grown.0 g), λ g. grown.1 (both.1 g))
 
+-- more fuel gives a task the same worth
 pub worth-later : (p : Program) (c : Columns) (n m : ℕ) (accepted : List Accepted) (t : ℕ) (v : Value) → n ≤ m
     → future_at (worths p c n accepted) t ≡ Some v → future_at (worths p c m accepted) t ≡ Some v
 worth-later p c n m accepted t v e = Stays-at _ _ (AllStay-at _ _ t (worths-stay p c n m e accepted)) v
@@ -105,6 +108,7 @@ read-acts p c ahead n accepted q to x t w at named worth =
     rest-acts p c n (place_in ws q) (Reads to x) ahead (acts-in p c ws q (Reads to x) at)
     ∙ ap (λ (o : Option Value). with_value o (λ u. with_number u (λ k. rest p c (suc n) (place_in ws (set_number q to k))))) (named-at ws q.futures x t named ∙ worth)
 
+-- after a read of a task that is worth a number the same follows
 pub reads-rest : (p : Program) (c : Columns) → AllJumpAhead p → (accepted : List Accepted) (waits : Option ℕ) (q : FrameOf ℕ) (to x t k : ℕ) (v : Value)
     → ActsAt p c q (Reads to x) → future_at q.futures x ≡ Some t → WorthGives p c accepted t (Number k)
     → RestGives p c accepted waits q v ↔ RestGives p c accepted waits (set_number q to k) v
@@ -130,6 +134,7 @@ ends-give p c accepted waits q w v m h = (forth, λ s. (suc m, h m (omega arith)
         let f : Some w ≡ Some v = sym (h (n + m) (omega arith)) ∙ Stays-at _ _ (rest_of-stays p c n (suc (n + m)) (omega arith) accepted waits q) v e in
         cc f
 
+-- where a task ends by its own act, this is the value
 pub ends-rest : (p : Program) (c : Columns) → AllJumpAhead p → (accepted : List Accepted) (waits : Option ℕ) (q : FrameOf ℕ) (w v : Value)
     → ActsAt p c q (Finishes w) → HasWorth p c accepted waits → RestGives p c accepted waits q v ↔ (w ≡ v)
 ends-rest p c ahead accepted waits q w v at h =
@@ -138,6 +143,7 @@ ends-rest p c ahead accepted waits q w v at h =
     value_of _ _ (ready (suc n) (omega (arith, l)) (rest p c (suc n) (place_in (worths p c (suc n) accepted) q))
     ∙ rest-acts p c n _ (Finishes w) ahead (acts-in p c (worths p c (suc n) accepted) q (Finishes w) at)))
 
+-- where a task ends by a trap that it reads, this is the value
 pub traps-rest : (p : Program) (c : Columns) → AllJumpAhead p → (accepted : List Accepted) (waits : Option ℕ) (q : FrameOf ℕ) (to x t : ℕ) (w v : Value)
     → ActsAt p c q (Reads to x) → future_at q.futures x ≡ Some t → WorthGives p c accepted t w → IsTrap w → HasWorth p c accepted waits
     → RestGives p c accepted waits q v ↔ (w ≡ v)
@@ -210,6 +216,7 @@ accepted_respawns-rest p c ahead accepted waits q target x v at held h =
               (rest-stays p c (n + m) (n + m) (omega arith) vs ws s next)) v f,
         )
 
+-- after a respawn that is accepted now
 pub respawns-rest : (p : Program) (c : Columns) → AllJumpAhead p → (accepted : List Accepted) (waits : Option ℕ) (q : FrameOf ℕ) (target task : ℕ) (x : Option ℕ) (v : Value)
     → NamesAccepted accepted waits q → ActsAt p c q (Respawns target x) → NamesTask q x → HasWorth p c accepted waits
     → RestGives p c accepted waits q v ↔ RestGives p c (accepted ++ Respawn task (task_waited q x) ∷ []) (task_waited q x) (enter p q target) v

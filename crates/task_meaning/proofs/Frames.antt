@@ -33,6 +33,7 @@ passed-names most [] h x = tt
 passed-names most (f ∷ fs) h zero = h zero f refl
 passed-names most (f ∷ fs) h (suc x) = passed-names most fs (λ at g e. h (suc at) g e) x
 
+-- the variable that a frame waits for names what the frame may name
 pub task-names : (most : ℕ) (q : FrameOf ℕ) → Each q.futures (NamesUpTo most) → (x : Option ℕ) → NamesUpTo most (task_waited q x)
 task-names most q h None = tt
 task-names most q h (Some x) = passed-names most q.futures h x
@@ -41,6 +42,7 @@ cond-names : (most : ℕ) (b : Bool) (f : Option ℕ) → NamesUpTo most f → N
 cond-names most true f h = h
 cond-names most false f h = tt
 
+-- the futures that are kept name what the frame may name
 pub kept-names : (most at : ℕ) (held : List ℕ) (fs : List (Option ℕ)) → Each fs (NamesUpTo most) → Each (kept_from at held fs) (NamesUpTo most)
 kept-names most at held [] h i f e = absurd (cc e)
 kept-names most at held (g ∷ fs) h zero f e =
@@ -67,6 +69,7 @@ act-names most c q h (Math op to left right) = number-names most (computed op (o
 act-names most c q h (Cell to column row) = number-names most (cell_at c column (operand q.numbers row)) (set_number q to)
 act-names most c q h _ = tt
 
+-- the arguments of a call name what the frame may name
 pub call-names : (p : Program) (c : Columns) (most : ℕ) (q : FrameOf ℕ) (to : ℕ) (call : CallOf ℕ) (waits : Option ℕ) → Each q.futures (NamesUpTo most)
     → ActsAt p c q (Calls to call waits) → Each call.futures (NamesUpTo most)
 call-names p c most q to call waits h (line, e, a) = subst (ActNames most) a (act-names most c q h line.instr)
@@ -86,10 +89,12 @@ member-names most fs h (x ∷ members) (u ∷ tasks) e (suc at) t f =
 abbrev pub IsWorthAt : Program → Columns → List Accepted → ℕ → Accepted → Type 0
 IsWorthAt p c accepted position a = (n : ℕ) → future_at (worths p c n accepted) (suc position) ≡ worth_of p c n (worths p c n accepted) a
 
+-- an accepted call that names earlier tasks is worth what it means
 pub call-worth_at : (p : Program) (c : Columns) (accepted : List Accepted) (position : ℕ) (call : CallOf ℕ) (waits : Option ℕ) → IsCallAt accepted position call waits
     → IsWorthAt p c accepted position (OfCall call waits)
 call-worth_at p c accepted position call waits is n = call-worth p c n accepted position call waits is.there is.futures is.waits_for
 
+-- an accepted aggregate of earlier tasks is worth what it means
 pub aggregate-worth_at : (p : Program) (c : Columns) (accepted : List Accepted) (position : ℕ) (members : List ℕ) → IsAggregateAt accepted position members
     → IsWorthAt p c accepted position (OfAll members)
 aggregate-worth_at p c accepted position members is n = aggregate-worth p c n accepted position members is.there is.members_earlier
@@ -102,6 +107,7 @@ behind-task ws q (Some x) (t, e) m =
     ap (λ (o : Option Value). with_value o (λ v. m)) (future_at-renamed (future_at ws) q.futures x ∙ ap (renamed (future_at ws)) e)
     ∙ ap (λ (o : Option ℕ). behind o ws m) (sym e)
 
+-- equal meanings have equal values
 pub value_of : (m more : Meant) → m ≡ more → m.value ≡ more.value
 value_of m more e = ap (λ (r : Meant). r.value) e
 
@@ -109,6 +115,7 @@ with_value-stays : (o r : Option Value) (m more : Meant) → Stays o r → Stays
 with_value-stays None r m more h k = tt
 with_value-stays (Some v) r m more h k = subst (λ (s : Option Value). Stays m.value (with_value s (λ u. more)).value) (sym h) k
 
+-- a value behind a task stays where more worths are known
 pub behind-stays : (waits : Option ℕ) (ws vs : List (Option Value)) (m more : Meant) → AllStay ws vs → Stays m.value more.value
     → Stays (behind waits ws m).value (behind waits vs more).value
 behind-stays None ws vs m more h k = k
@@ -120,10 +127,12 @@ set-stays : (p : Program) (c : Columns) (n m : ℕ) → n ≤ m → (ws vs : Lis
 set-stays p c n m e ws vs h q to o r k =
     (rest-grows p c n m e q.kind q.state (q.at + 1) q.numbers _ _ (AllStay-set _ _ to o r (AllStay-named ws vs h q.futures) k)).value
 
+-- the value of a frame's place stays with more worths and more fuel
 pub rest-stays : (p : Program) (c : Columns) (n m : ℕ) → n ≤ m → (ws vs : List (Option Value)) → AllStay ws vs → (q : FrameOf ℕ)
     → Stays (rest p c n (place_in ws q)).value (rest p c m (place_in vs q)).value
 rest-stays p c n m e ws vs h q = (rest-grows p c n m e q.kind q.state q.at q.numbers _ _ (AllStay-named ws vs h q.futures)).value
 
+-- the value of what follows from a frame stays with more fuel
 pub rest_of-stays : (p : Program) (c : Columns) (n m : ℕ) → n ≤ m → (accepted : List Accepted) (waits : Option ℕ) (q : FrameOf ℕ)
     → Stays (rest_of p c n accepted waits q).value (rest_of p c m accepted waits q).value
 rest_of-stays p c n m e accepted waits q =
@@ -140,9 +149,11 @@ both-give p c accepted later waits then q next v forth back = (
   λ g. (suc g.0, Stays-at _ _ (back g.0) v g.1),
 )
 
+-- what stays up to an equal thing stays
 pub Stays-to : {A : Type 0} (o r s : Option A) → Stays o r → r ≡ s → Stays o s
 Stays-to {A} o r s h e = subst (λ (x : Option A). Stays o x) e h
 
+-- what an equal thing keeps is kept
 pub Stays-from : {A : Type 0} (o r s : Option A) → o ≡ r → Stays r s → Stays o s
 Stays-from {A} o r s e h = subst (λ (x : Option A). Stays x s) (sym e) h
 
@@ -179,6 +190,7 @@ last-call p c accepted q to call x names at = record {
   waits_for = task-names (length accepted) q names x;
 }
 
+-- an aggregate that is accepted last is one of earlier tasks
 pub last-aggregate : (accepted : List Accepted) (q : FrameOf ℕ) (members tasks : List ℕ)
     → Each q.futures (NamesUpTo (length accepted)) → map (future_at q.futures) members ≡ map Some tasks
     → IsAggregateAt (accepted ++ OfAll tasks ∷ []) (length accepted) tasks
@@ -253,6 +265,7 @@ accepted_spawns-rest p c ahead accepted position waits q to call x v at held is 
         (behind-stays waits vs ws (rest p c n (set_future (place_in vs q) to (worth_of p c n vs a))) (rest p c (suc n) (place_in ws q)) h
         (Stays-to _ _ _ s (sym (spawn-acts p c ahead n accepted q to call x at held))))
 
+-- after a spawn whose call is accepted now
 pub spawns-rest : (p : Program) (c : Columns) → AllJumpAhead p → (accepted : List Accepted) (waits : Option ℕ) (q : FrameOf ℕ) (to : ℕ) (call : CallOf ℕ) (x : Option ℕ) (v : Value)
     → NamesAccepted accepted waits q → ActsAt p c q (Calls to call x) → NamesTask q x
     → RestGives p c accepted waits q v ↔ RestGives p c (accepted ++ OfCall call (task_waited q x) ∷ []) waits (set_future q to (Some (suc (length accepted)))) v

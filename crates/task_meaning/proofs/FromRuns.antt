@@ -16,6 +16,7 @@ use Rattle.task_meaning.proofs.Fuel.{rest-within}
 use Rattle.task_meaning.proofs.ActByAct.{rest-follows}
 use Rattle.task_meaning.proofs.Ahead.{AllJumpAhead}
 
+-- a meaning with this value and these counts is just these
 pub given-by : (m : Meant) (v : Value) (k : Counts) → m.value ≡ Some v → m.counts ≡ Some k → m ≡ given v k
 given-by m v k a b = λ i. record { value = a i; counts = b i }
 
@@ -25,14 +26,17 @@ given-later p c n m q v k e f =
     let w = rest-within p c n m q e in
     given-by (rest p c m q) v k (Stays-at _ _ w.value v (ap (λ (r : Meant). r.value) f)) (Stays-at _ _ w.counts k (ap (λ (r : Meant). r.counts) f))
 
+-- what follows from a place is what follows its act
 pub rest-acts : (p : Program) (c : Columns) (n : ℕ) (q : Place) (act : Act Value) → AllJumpAhead p → ActsAt p c q act → rest p c (suc n) q ≡ followed p c n act q
 rest-acts p c n q act ahead (line, e, a) =
     rest-follows p c n q line e (ahead q.kind q.state q.at line e) ∙ ap (λ (x : Act Value). followed p c n x q) a
 
+-- behind a future with a value the same is meant
 pub behind-ready : (waits : Option ℕ) (futures : List (Option Value)) (m : Meant) → IsReady futures waits → behind waits futures m ≡ m
 behind-ready None futures m h = refl
 behind-ready (Some x) futures m (v, e) = ap (λ (o : Option Value). with_value o (λ v. m)) e
 
+-- behind futures with values the same is meant
 pub behind_all-ready : (members : List ℕ) (futures : List (Option Value)) (m : Meant) → Each members (HasValue futures) → behind_all members futures m ≡ m
 behind_all-ready [] futures m h = refl
 behind_all-ready (x ∷ more) futures m h =
@@ -48,9 +52,11 @@ activations-append [] b = omega arith
 activations-append (Begins ∷ a) b = activations-append a b
 activations-append (Starts ∷ a) b = omega (arith, activations-append a b)
 
+-- the counts of two lists of events are those of both together
 pub counts-append : (a b : List Event) → counts_of (a ++ b) ≡ total (counts_of a) (counts_of b)
 counts-append a b = λ i. record { tasks = tasks-append a b i; activations = activations-append a b i }
 
+-- a call begins one task and starts one activation more
 pub counts-called : (events : List Event) → counts_of (called events) ≡ total (record { tasks = 1; activations = 1 }) (counts_of events)
 counts-called events =
     let t : suc (tasks_in events) ≡ 1 + tasks_in events = omega arith in
@@ -65,12 +71,14 @@ each_starts : (m : ℕ) → activations_in (replicate m Starts) ≡ m
 each_starts zero = refl
 each_starts (suc m) = ap suc (each_starts m)
 
+-- an aggregate begins one task, and starts an activation for each member
 pub counts-gathered : (m : ℕ) → counts_of (gathered m) ≡ total (record { tasks = 1; activations = m }) (record { tasks = 0; activations = 0 })
 counts-gathered m =
     let t : suc (tasks_in (replicate m Starts)) ≡ 1 + 0 = ap suc (no_tasks m) in
     let a : activations_in (replicate m Starts) ≡ m + 0 = omega (arith, each_starts m) in
     λ i. record { tasks = t i; activations = a i }
 
+-- a respawn starts one activation more
 pub counts-started : (events : List Event) → counts_of (Starts ∷ events) ≡ total (record { tasks = 0; activations = 1 }) (counts_of events)
 counts-started events =
     let t : tasks_in events ≡ 0 + tasks_in events = omega arith in
@@ -83,10 +91,12 @@ pub child-given : (child : Meant) (w v : Value) (i j : Counts) (same : Place →
 child-given child w v i j same q to e f =
     ap (λ (m : Meant). with_child m same q to) e ∙ ap (adding (Some i)) f
 
+-- a trap that is read is the value
 pub trap-ends : (v : Value) (go : ℕ → Meant) → IsTrap v → with_number v go ≡ gives v
 trap-ends (Number n) go h = absurd h
 trap-ends (Trapped t) go h = refl
 
+-- a run to a value gives it, with the counts of its events, by some fuel
 pub runs-given : (p : Program) (c : Columns) → AllJumpAhead p → (q : Place) (v : Value) (events : List Event) → Runs p c q v events
     → (n : ℕ) × (rest p c n q ≡ given v (counts_of events))
 runs-given p c ahead q v events (finishes at) = (1, rest-acts p c 0 _ _ ahead at)

@@ -65,14 +65,17 @@ lines-grow p c less less' grows (line ∷ more) (suc skip) kind state at numbers
 lines-grow p c less less' grows (line ∷ more) zero kind state at numbers fs gs h =
     instr-grows p c less less' (lines_mean p c less more) (lines_mean p c less' more) grows (lines-grow p c less less' grows more) line.instr kind state at numbers fs gs h
 
+-- more fuel, and more futures with values, keep what a place gives
 pub rest-grows : (p : Program) (c : Columns) (n m : ℕ) → n ≤ m → Grows (rest p c n) (rest p c m)
 rest-grows p c zero m e kind state at numbers fs gs h = Within-nothing _
 rest-grows p c (suc n) zero e kind state at numbers fs gs h = absurd (omega (arith, e))
 rest-grows p c (suc n) (suc m) e kind state at numbers fs gs h =
     lines-grow p c (rest p c n) (rest p c m) (rest-grows p c n m (omega (arith, e))) (code_at p kind state) at kind state at numbers fs gs h
 
+-- more fuel keeps what a place gives
 pub rest-within : (p : Program) (c : Columns) (n m : ℕ) (q : Place) → n ≤ m → Within (rest p c n q) (rest p c m q)
 rest-within p c n m q e = rest-grows p c n m e q.kind q.state q.at q.numbers q.futures q.futures (AllStay-refl q.futures)
 
+-- more fuel keeps what a call gives
 pub mean-within : (p : Program) (c : Columns) (n m : ℕ) (call : Call) → n ≤ m → Within (mean p c n call) (mean p c m call)
 mean-within p c n m call e = Within-counted 1 1 _ _ (rest-within p c n m (entry p call) e)

@@ -20,36 +20,44 @@ use Rattle.task_meaning.proofs.Ahead.{AllJumpAhead}
 use Rattle.task_meaning.proofs.FromRuns.{given-by, rest-acts, behind-ready, behind_all-ready, trap-ends}
 use Rattle.task_meaning.proofs.ToRuns.{behind-given, with_child-given}
 
+-- more fuel gives a place the same value
 pub value-later : (p : Program) (c : Columns) (n m : ℕ) (q : Place) (v : Value) → n ≤ m → (rest p c n q).value ≡ Some v → (rest p c m q).value ≡ Some v
 value-later p c n m q v e f = Stays-at _ _ (rest-within p c n m q e).value v f
 
+-- more fuel gives a place the same counts
 pub counts-later : (p : Program) (c : Columns) (n m : ℕ) (q : Place) (k : Counts) → n ≤ m → (rest p c n q).counts ≡ Some k → (rest p c m q).counts ≡ Some k
 counts-later p c n m q k e f = Stays-at _ _ (rest-within p c n m q e).counts k f
 
+-- more fuel gives a call the same value
 pub call_value-later : (p : Program) (c : Columns) (n m : ℕ) (call : Call) (v : Value) → n ≤ m → (mean p c n call).value ≡ Some v → (mean p c m call).value ≡ Some v
 call_value-later p c n m call v e f = Stays-at _ _ (mean-within p c n m call e).value v f
 
+-- more fuel gives a call the same counts
 pub call_counts-later : (p : Program) (c : Columns) (n m : ℕ) (call : Call) (k : Counts) → n ≤ m → (mean p c n call).counts ≡ Some k → (mean p c m call).counts ≡ Some k
 call_counts-later p c n m call k e f = Stays-at _ _ (mean-within p c n m call e).counts k f
 
+-- a place gives one value at most
 pub one-value : (p : Program) (c : Columns) (q : Place) (v w : Value) → Gives p c q v → Gives p c q w → v ≡ w
 one-value p c q v w (n, e) (m, f) =
     let a = value-later p c n (n + m) q v (omega arith) e in
     let b = value-later p c m (n + m) q w (omega arith) f in
     let s : Some v ≡ Some w = sym a ∙ b in cc s
 
+-- a place gives one pair of counts at most
 pub one-counts : (p : Program) (c : Columns) (q : Place) (i j : Counts) → GivesCounts p c q i → GivesCounts p c q j → i ≡ j
 one-counts p c q i j (n, e) (m, f) =
     let a = counts-later p c n (n + m) q i (omega arith) e in
     let b = counts-later p c m (n + m) q j (omega arith) f in
     let s : Some i ≡ Some j = sym a ∙ b in cc s
 
+-- a call gives one value at most
 pub one-call_value : (p : Program) (c : Columns) (call : Call) (v w : Value) → CallGives p c call v → CallGives p c call w → v ≡ w
 one-call_value p c call v w (n, e) (m, f) =
     let a = call_value-later p c n (n + m) call v (omega arith) e in
     let b = call_value-later p c m (n + m) call w (omega arith) f in
     let s : Some v ≡ Some w = sym a ∙ b in cc s
 
+-- a call gives one pair of counts at most
 pub one-call_counts : (p : Program) (c : Columns) (call : Call) (i j : Counts) → CallCounts p c call i → CallCounts p c call j → i ≡ j
 one-call_counts p c call i j (n, e) (m, f) =
     let a = call_counts-later p c n (n + m) call i (omega arith) e in
@@ -72,12 +80,14 @@ adding-none m = λ i. record { value = m.value; counts = go m.counts i }
         let a : k.activations ≡ 0 + k.activations = omega arith in
         λ i. Some (record { tasks = t i; activations = a i })
 
+-- an aggregate whose members have values gives 0, with a task and an activation for each
 pub aggregate-given : (members : ℕ) → adding (counted 1 members) (gives (Number 0)) ≡ given (Number 0) (record { tasks = 1; activations = members })
 aggregate-given members =
     let t : 1 + 0 ≡ 1 = omega arith in
     let a : members + 0 ≡ members = omega arith in
     λ i. given (Number 0) (record { tasks = t i; activations = a i })
 
+-- an act that is no call goes on at the next place
 pub leading : (p : Program) (c : Columns) → AllJumpAhead p → (q : Place) (extra : Counts) (next : Place) → Leads p c q extra next → Leading p c q extra next
 leading p c ahead q extra next (steps {q = place} following at) = record {
   fuel = suc;
@@ -110,6 +120,7 @@ value_of m more e = ap (λ (r : Meant). r.value) e
 counts_in : (m more : Meant) → m ≡ more → m.counts ≡ more.counts
 counts_in m more e = ap (λ (r : Meant). r.counts) e
 
+-- after such an act the value is the same
 pub leads-value : (p : Program) (c : Columns) → AllJumpAhead p → (q next : Place) (extra : Counts) (v : Value) → Leads p c q extra next → Gives p c q v ↔ Gives p c next v
 leads-value p c ahead q next extra v leads = (there, back)
   where
@@ -122,6 +133,7 @@ leads-value p c ahead q next extra v leads = (there, back)
     back : Gives p c next v → Gives p c q v
     back (n, e) = (suc n, value_of _ _ (l.follows n) ∙ value-later p c n (l.fuel n) next v (l.enough n) e)
 
+-- such an act counts its own, and what the next place counts
 pub leads-counts : (p : Program) (c : Columns) → AllJumpAhead p → (q next : Place) (extra k : Counts) → Leads p c q extra next
     → GivesCounts p c q k ↔ ((j : Counts) × GivesCounts p c next j × (k ≡ total extra j))
 leads-counts p c ahead q next extra k leads = (there, back)
@@ -150,6 +162,7 @@ calling p c ahead n q to call waits w at ready e =
     ∙ ap (λ (m : Meant). with_child m (rest p c (suc n)) q to) (behind-ready waits q.futures (mean p c n call) ready)
     ∙ ap (λ (o : Option Value). adding (mean p c n call).counts (rest p c (suc n) (set_future q to o))) e
 
+-- after a call with a value the task goes on with it
 pub calls-value : (p : Program) (c : Columns) → AllJumpAhead p → (q : Place) (to : ℕ) (call : Call) (waits : Option ℕ) (w v : Value)
     → ActsAt p c q (Calls to call waits) → IsReady q.futures waits → CallGives p c call w → Gives p c q v ↔ Gives p c (set_future q to (Some w)) v
 calls-value p c ahead q to call waits w v at ready (m, f) = (there, back)
@@ -163,6 +176,7 @@ calls-value p c ahead q to call waits w v at ready (m, f) = (there, back)
     back : Gives p c (set_future q to (Some w)) v → Gives p c q v
     back (n, e) = (suc (n + m), value_of _ _ (at_fuel n) ∙ value-later p c n (suc (n + m)) (set_future q to (Some w)) v (omega arith) e)
 
+-- a call counts its own, and what the next place counts
 pub calls-counts : (p : Program) (c : Columns) → AllJumpAhead p → (q : Place) (to : ℕ) (call : Call) (waits : Option ℕ) (k : Counts)
     → ActsAt p c q (Calls to call waits)
     → GivesCounts p c q k ↔ ((w : Value) × (i : Counts) × (j : Counts) × IsReady q.futures waits × CallGives p c call w × CallCounts p c call i
@@ -207,9 +221,11 @@ ends-at p c ahead q w (traps {q = place} to x at named trap) n =
     ∙ ap (λ (o : Option Value). with_value o (λ u. with_number u (λ i. rest p c (suc n) (set_number place to i)))) named
     ∙ trap-ends _ _ trap
 
+-- where a task ends this is its value
 pub ends-value : (p : Program) (c : Columns) → AllJumpAhead p → (q : Place) (w v : Value) → EndsAt p c q w → Gives p c q v ↔ (w ≡ v)
 ends-value p c ahead q w v ends = (λ g. one-value p c q w v (1, value_of _ _ (ends-at p c ahead q w ends 0)) g, λ s. (1, value_of _ _ (ends-at p c ahead q w ends 0) ∙ ap Some s))
 
+-- where a task ends no more is counted
 pub ends-counts : (p : Program) (c : Columns) → AllJumpAhead p → (q : Place) (w : Value) (k : Counts) → EndsAt p c q w → GivesCounts p c q k ↔ (no_counts ≡ k)
 ends-counts p c ahead q w k ends =
     (λ g. one-counts p c q no_counts k (1, counts_in _ _ (ends-at p c ahead q w ends 0)) g, λ s. (1, counts_in _ _ (ends-at p c ahead q w ends 0) ∙ ap Some s))

@@ -1,8 +1,9 @@
 -- In a valid program the held futures alone matter.
-use Rattle.std.specs.Prelude.{◌≡◌, ℕ, zero, suc, ◌+◌, ◌<◌, ◌≤◌, Bool, true, false, ◌||◌, not, cond, nat_eq, Option, Some, None, List, [], ◌∷◌, map, length, slice_get, slice_set, IfSome, IsTrue}
+use Rattle.std.specs.Prelude.{◌≡◌, ℕ, zero, suc, ◌+◌, ◌<◌, ◌≤◌, Bool, true, false, ◌||◌, cond, nat_eq, Option, Some, None, List, [], ◌∷◌, map, length, slice_get, slice_set, IfSome, IsTrue}
 use Rattle.std.specs.Option.{option_map}
 use Rattle.std.proofs.Common.{refl, sym, ap, subst, ◌∙◌, arith, length-set}
 use Rattle.std.proofs.lemmas.Bool.{eqb-true}
+use Rattle.task_syntax.proofs.Bools.{has-without}
 use Rattle.task_syntax.specs.Places.{Each, instr_at}
 use Rattle.task_syntax.specs.Facts.{Facts, has, without, members_of, renewed, after}
 use Rattle.task_syntax.specs.Form.{IsWellFormed, IsFormedInstr, Leaves}
@@ -32,29 +33,13 @@ use Rattle.task_meaning.proofs.Ahead.{AllJumpAhead, jumps_ahead}
 use Rattle.task_meaning.proofs.ActByAct.{rest-follows, rest-past}
 use Rattle.task_meaning.proofs.Renaming.{future_at-renamed, length-renamed}
 
-or-right : (a b : Bool) → b ≡ true → (a || b) ≡ true
-or-right true b e = refl
-or-right false b e = e
-
-or-map : (a b d : Bool) → (b ≡ true → d ≡ true) → (a || b) ≡ true → (a || d) ≡ true
-or-map true b d h e = refl
-or-map false b d h e = h e
-
--- what is in a list without a member is in the list
-has-without : (x y : ℕ) (ys : List ℕ) → IsTrue (has x (without y ys)) → IsTrue (has x ys)
-has-without x y [] e = e
-has-without x y (z ∷ zs) e = go (nat_eq y z) (has-without x y zs) e
-  where
-    go : (b : Bool) → (IsTrue (has x (without y zs)) → IsTrue (has x zs)) → IsTrue (has x (cond (not b) (z ∷ without y zs) (without y zs))) → IsTrue (has x (z ∷ zs))
-    go true more f = or-right (nat_eq x z) (has x zs) (more f)
-    go false more f = or-map (nat_eq x z) (has x (without y zs)) (has x zs) more f
-
+-- what is in a list, where it was put in front anew, and is not that
 has-renewed : (x y : ℕ) (ys : List ℕ) → IsTrue (has x (y ∷ without y ys)) → ¬ (x ≡ y) → IsTrue (has x ys)
 has-renewed x y ys e n = go (nat_eq x y) refl e
   where
     go : (b : Bool) → nat_eq x y ≡ b → (b || has x (without y ys)) ≡ true → IsTrue (has x ys)
     go true f g = absurd (n (eqb-true x y f))
-    go false f g = has-without x y ys g
+    go false f g = (has-without x y ys g).1
 
 has-at : (x : ℕ) (xs : List ℕ) → IsTrue (has x xs) → (at : ℕ) × (slice_get xs at ≡ Some x)
 has-at x [] e = absurd (cc e)
@@ -81,7 +66,7 @@ held-before (Copy to source) x f n e = go (nat_eq to source) e
     go : (b : Bool) → IsTrue (has x (cond b f (renewed to (has source f.settled) (members_of source f.members) f)).held) → IsTrue (has x f.held)
     go true g = g
     go false g = has-renewed x to f.held g n
-held-before (Drop future) x f n e = has-without x future f.held e
+held-before (Drop future) x f n e = (has-without x future f.held e).1
 held-before _ x f n e = e
 
 held-on : (state : State) (at x : ℕ) (instr : Instr) → instr_at state at ≡ Some instr → ¬ Leaves instr → ¬ Writes instr x → Held state (at + 1) x → Held state at x
@@ -327,11 +312,13 @@ rest-alike p c (suc n) formed valid at_kind at_state at numbers fs gs long same 
     in_kind None e = nowhere (ap (λ (o : Option Kind). slice_get (code_in (state_in o at_state)) at) e)
     in_kind (Some kind) e = in_state kind e (slice_get kind.states at_state) refl
 
+-- places that agree in the held futures mean the same
 pub held-alone : (p : Program) (c : Columns) (n : ℕ) (q other : Place) → IsWellFormed p → IsValid p → AgreeInHeld p q other → rest p c n q ≡ rest p c n other
 held-alone p c n q other formed valid a =
     rest-alike p c n formed valid q.kind q.state q.at q.numbers q.futures other.futures a.as_long (λ x state there h. a.held x (state, there, h))
     ∙ ap (rest p c n) (λ i. place_of (a.kind i) (a.state i) (a.at i) (a.numbers i) other.futures)
 
+-- the same follows from frames that agree in the held futures
 pub held-tasks : (p : Program) (c : Columns) (n : ℕ) (accepted : List Accepted) (waits : Option ℕ) (q other : FrameOf ℕ) → IsWellFormed p → IsValid p → AgreeInHeld p q other
     → rest_of p c n accepted waits q ≡ rest_of p c n accepted waits other
 held-tasks p c n accepted waits q other formed valid a =
@@ -346,6 +333,7 @@ held-tasks p c n accepted waits q other formed valid a =
           future_at-renamed (future_at ws) q.futures x ∙ ap (renamed (future_at ws)) (a.held x h) ∙ sym (future_at-renamed (future_at ws) other.futures x);
     }))
 
+-- a frame may give up what is not held
 pub unheld-goes : (p : Program) (c : Columns) (n : ℕ) (accepted : List Accepted) (waits : Option ℕ) (q : FrameOf ℕ) (variables : List ℕ)
     → IsWellFormed p → IsValid p → ((x : ℕ) → IsHeldAt p q x → IsTrue (has x variables))
     → rest_of p c n accepted waits (record q { futures = kept variables q.futures }) ≡ rest_of p c n accepted waits q

@@ -16,11 +16,13 @@ use Rattle.task_meaning.specs.Arithmetic.{computed, compares, cell_at}
 use Rattle.task_meaning.specs.Acts.{Act, Steps, Calls, steps_with, act_of, act_with}
 
 module _ {A B : Type 0} (name : A → Option B) where
+  -- the future at a position, renamed
   pub future_at-renamed : (fs : List (Option A)) (x : ℕ) → future_at (map (renamed name) fs) x ≡ renamed name (future_at fs x)
   future_at-renamed [] x = refl
   future_at-renamed (f ∷ fs) zero = refl
   future_at-renamed (f ∷ fs) (suc x) = future_at-renamed fs x
 
+  -- a list of futures that is set, renamed
   pub set-renamed : (fs : List (Option A)) (x : ℕ) (o : Option A) → map (renamed name) (slice_set fs x o) ≡ slice_set (map (renamed name) fs) x (renamed name o)
   set-renamed [] x o = refl
   set-renamed (f ∷ fs) zero o = refl
@@ -44,6 +46,7 @@ module _ {A B : Type 0} (name : A → Option B) where
   append-renamed [] gs = refl
   append-renamed (f ∷ fs) gs = ap (λ hs. renamed name f ∷ hs) (append-renamed fs gs)
 
+  -- renaming leaves the length
   pub length-renamed : (fs : List (Option A)) → length (map (renamed name) fs) ≡ length fs
   length-renamed [] = refl
   length-renamed (f ∷ fs) = ap suc (length-renamed fs)
@@ -71,11 +74,13 @@ module _ {A B : Type 0} (name : A → Option B) where
       ∙ ap (kept_from 0 (holds_at p call.kind 0)) (padded-renamed (variables_of p call.kind) call.futures) in
       λ i. record { kind = call.kind; state = 0; at = 0; numbers = padded (variables_of p call.kind) 0 call.numbers; futures = futures i }
 
+  -- the frame after a respawn, renamed
   pub enter-renamed : (p : Program) (q : FrameOf A) (target : ℕ) → frame_with name (enter p q target) ≡ enter p (frame_with name q) target
   enter-renamed p q target =
       let futures = kept_from-renamed 0 (holds_at p q.kind target) q.futures in
       λ i. record { kind = q.kind; state = target; at = 0; numbers = q.numbers; futures = futures i }
 
+  -- a frame whose variable is set, renamed
   pub set_future-renamed : (q : FrameOf A) (x : ℕ) (o : Option A) → frame_with name (set_future q x o) ≡ set_future (frame_with name q) x (renamed name o)
   set_future-renamed q x o =
       let futures = set-renamed q.futures x o in

@@ -32,6 +32,7 @@ counts-split p c n position root e =
     ap all_counts (drop-at (mean_roots p c n) position m f).0
     ∙ ap (λ (o : Option Meant). plus (counts_in o) (later_counts p c n (suc position))) (sym f)
 
+-- the roots from one on count what it counts and what those after it count
 pub one-more : (p : Program) (c : Columns) (position : ℕ) (root : RootLine) (k : Counts) → slice_get p.roots position ≡ Some root
     → RootsLeft p c position k ↔ ((i : Counts) × (j : Counts) × RootCounts p c position i × RootsLeft p c (suc position) j × (k ≡ total i j))
 one-more p c position root k e = (
@@ -53,6 +54,7 @@ one-more p c position root k e = (
       ),
 )
 
+-- after the last root nothing is counted
 pub none-left : (p : Program) (c : Columns) (position : ℕ) (k : Counts) → length p.roots ≤ position → RootsLeft p c position k ↔ (no_counts ≡ k)
 none-left p c position k l = (
   λ g. let s : Some no_counts ≡ Some k = sym (none g.0) ∙ g.1 in cc s,
@@ -73,6 +75,7 @@ behind-plus (Some t) ws more m = go (future_at ws t)
     go None = refl
     go (Some v) = refl
 
+-- a root with a task counts the task, an activation, and the first frame
 pub root-task_counts : (p : Program) (c : Columns) (accepted : List Accepted) (own : List (Option ℕ)) (position : ℕ) (root : RootLine) (t : ℕ) (k : Counts)
     → IsWellFormed p → AreRootTasks p accepted own → slice_get p.roots position ≡ Some root → future_at own position ≡ Some t
     → RootCounts p c position k

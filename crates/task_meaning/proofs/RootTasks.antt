@@ -20,6 +20,7 @@ use Rattle.task_meaning.proofs.Lists.{length-snoc}
 use Rattle.task_meaning.proofs.RootsInTurn.{root-meant, root-at, length-values}
 use Rattle.task_meaning.proofs.Worths.{call-worth}
 
+-- each root has a meaning
 pub mean_roots-length : (p : Program) (c : Columns) (n : ℕ) (roots : List RootLine) (ms : List Meant) → length (mean_roots_from p c n ms roots) ≡ length ms + length roots
 mean_roots-length p c n [] ms = omega arith
 mean_roots-length p c n (root ∷ roots) ms =
@@ -114,6 +115,7 @@ module _ (p : Program) (c : Columns) (n : ℕ) (accepted : List Accepted) (own :
       waits-same ws own vs at known root.behind is.waits form.behind (mean p c n (call_with (future_at ws) (root_call own root)))
       ∙ ap (λ (k : Call). behind root.behind vs (mean p c n k)) call_is
 
+-- the worth of a root's task is the root's value
 pub root-worth : (p : Program) (c : Columns) (n : ℕ) (accepted : List Accepted) (own : List (Option ℕ)) → IsWellFormed p → AreRootTasks p accepted own
     → (bound at : ℕ) (root : RootLine) (t : ℕ) → at < bound → slice_get p.roots at ≡ Some root → future_at own at ≡ Some t
     → future_at (worths p c n accepted) t ≡ root_value p c n at

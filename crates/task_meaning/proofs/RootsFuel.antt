@@ -22,6 +22,7 @@ stay_roots : (fs gs : List (Option Value)) (arguments : List RootArgument) → A
 stay_roots fs gs [] h = tt
 stay_roots fs gs (a ∷ arguments) h = (stays_root fs gs a h, stay_roots fs gs arguments h)
 
+-- more fuel, and more values of earlier roots, keep what a root means
 pub mean_root-within : (p : Program) (c : Columns) (n m : ℕ) (fs gs : List (Option Value)) (root : RootLine) → n ≤ m → AllStay fs gs
     → Within (mean_root p c n fs root) (mean_root p c m gs root)
 mean_root-within p c n m fs gs root e h =
@@ -61,9 +62,11 @@ roots-within p c n m e [] ms ns h = h
 roots-within p c n m e (root ∷ roots) ms ns h =
     roots-within p c n m e roots _ _ (within_snoc ms ns _ _ h (mean_root-within p c n m (values_of ms) (values_of ns) root e (values-stay ms ns h)))
 
+-- more fuel gives a root the same value
 pub root_value-stays : (p : Program) (c : Columns) (n m at : ℕ) → n ≤ m → Stays (root_value p c n at) (root_value p c m at)
 root_value-stays p c n m at e = AllStay-at _ _ at (values-stay _ _ (roots-within p c n m e p.roots [] [] tt))
 
+-- more fuel gives all roots the same counts
 pub roots_counts-stay : (p : Program) (c : Columns) (n m : ℕ) → n ≤ m → Stays (roots_counts p c n) (roots_counts p c m)
 roots_counts-stay p c n m e = counts-within _ _ (roots-within p c n m e p.roots [] [] tt)
 
@@ -85,5 +88,6 @@ within-from (a ∷ as_) (b ∷ bs) h (suc position) = within-from as_ bs h.1 pos
 pub root_counts-stay : (p : Program) (c : Columns) (n m position : ℕ) → n ≤ m → Stays (root_counts p c n position) (root_counts p c m position)
 root_counts-stay p c n m position e = counts-at _ _ (roots-within p c n m e p.roots [] [] tt) position
 
+-- more fuel gives the roots from one on the same counts
 pub later_counts-stay : (p : Program) (c : Columns) (n m position : ℕ) → n ≤ m → Stays (later_counts p c n position) (later_counts p c m position)
 later_counts-stay p c n m position e = counts-within _ _ (within-from _ _ (roots-within p c n m e p.roots [] [] tt) position)

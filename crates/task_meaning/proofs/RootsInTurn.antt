@@ -19,6 +19,7 @@ use Rattle.task_meaning.proofs.FromRuns.{given-by, behind-ready}
 use Rattle.task_meaning.proofs.ToRuns.{behind-given}
 use Rattle.task_meaning.proofs.GoesOn.{call_value-later, call_counts-later}
 
+-- there are as many values as meanings
 pub length-values : (ms : List Meant) → length (values_of ms) ≡ length ms
 length-values [] = refl
 length-values (m ∷ ms) = ap suc (length-values ms)
@@ -85,6 +86,7 @@ root-meant p c n (r ∷ roots) (suc at) root ms vs e l h =
     let longer : length (ms ++ m ∷ []) ≡ suc (length ms) = length-snoc ms m in
     root-meant p c n roots at root (ms ++ m ∷ []) vs e (omega (arith, longer, l)) h
 
+-- the value of a root, by the values of those before it
 pub root-at : (p : Program) (c : Columns) (n : ℕ) (roots : List RootLine) (at : ℕ) (root : RootLine) (ms : List Meant) (vs : List (Option Value))
     → slice_get roots at ≡ Some root → length vs ≡ length ms + at
     → ((j : ℕ) → j < length vs → future_at vs j ≡ future_at (values_of (mean_roots_from p c n ms roots)) j)
@@ -131,6 +133,7 @@ root_value-is p c n earlier root e h ready =
     known : (j : ℕ) → j < length (map Some earlier) → future_at (map Some earlier) j ≡ root_value p c n j
     known j b = let (u, f, g) = slice_get-some earlier j b in g ∙ sym (h j u f)
 
+-- the value of a root is that of its call with the values before it
 pub roots-are_calls : (p : Program) (c : Columns) (earlier : List Value) (root : RootLine) (v : Value)
     → slice_get p.roots (length earlier) ≡ Some root
     → ((at : ℕ) (u : Value) → slice_get earlier at ≡ Some u → RootGives p c at u)
@@ -156,12 +159,14 @@ roots-are_calls p c earlier root v e h ready =
         back : RootGives p c (length earlier) v → CallGives p c call v
         back (m, g) = (n + m, sym (same m) ∙ Stays-at _ _ (root_value-stays p c m (n + m) (length earlier) (omega arith)) v g)
 
+-- no counts add nothing
 pub total-none : (i : Counts) → total i no_counts ≡ i
 total-none i =
     let t : i.tasks + 0 ≡ i.tasks = omega arith in
     let a : i.activations + 0 ≡ i.activations = omega arith in
     λ x. record { tasks = t x; activations = a x }
 
+-- counts add up in any grouping
 pub total-assoc : (i j k : Counts) → total (total i j) k ≡ total i (total j k)
 total-assoc i j k =
     let t : i.tasks + j.tasks + k.tasks ≡ i.tasks + (j.tasks + k.tasks) = omega arith in
@@ -178,6 +183,7 @@ plus-assoc (Some i) None d = refl
 plus-assoc (Some i) (Some j) None = refl
 plus-assoc (Some i) (Some j) (Some k) = ap Some (total-assoc i j k)
 
+-- no counts in front add nothing
 pub plus-first : (o : Option Counts) → plus (Some no_counts) o ≡ o
 plus-first None = refl
 plus-first (Some k) =
@@ -256,6 +262,7 @@ from_cost p c (root ∷ roots) earlier j (v, a, j', ready, (n1, e1), (n2, e2), m
         (values-snoc ms m earlier v f (ap (λ (q : Meant). q.value) whole))
         ∙ ap Some (total-assoc i a j' ∙ ap (total i) (sym s))
 
+-- the counts of all roots are those of their calls, one by one
 pub roots-add_up : (p : Program) (c : Columns) (k : Counts) → RootsCount p c k ↔ RootsCost p c [] p.roots k
 roots-add_up p c k = (there, back)
   where

@@ -17,6 +17,7 @@ use Rattle.task_meaning.proofs.ActByAct.{rest-follows, rest-past}
 use Rattle.task_meaning.proofs.Ahead.{AllJumpAhead, StepsAhead, act-ahead}
 use Rattle.task_meaning.proofs.FromRuns.{given-by, counts-append, counts-called, counts-gathered, counts-started}
 
+-- nothing gives no value
 pub nothing-given : (v : Value) (k : Counts) → nothing ≡ given v k → ⊥
 nothing-given v k e = let f : None ≡ Some v = ap (λ (m : Meant). m.value) e in cc f
 
@@ -30,6 +31,7 @@ behind-given (Some x) futures m v k e = go (future_at futures x) refl e
     go None f g = absurd (nothing-given v k g)
     go (Some u) f g = ((u, f), g)
 
+-- several futures have values where something is given behind them
 pub behind_all-given : (members : List ℕ) (futures : List (Option Value)) (m : Meant) (v : Value) (k : Counts) → behind_all members futures m ≡ given v k
     → Each members (HasValue futures) × (m ≡ given v k)
 behind_all-given [] futures m v k e = (λ at x f. absurd (cc f), e)
@@ -172,6 +174,7 @@ lines_run p c ahead n below (suc left) q h =
         = ap (λ (x : ℕ). length (code_at p x next.state)) same_kind ∙ ap (λ (x : ℕ). length (code_at p q.kind x)) same_state in
         omega (arith, same, further, h)
 
+-- what some fuel gives has a run with so many events
 pub given-runs : (p : Program) (c : Columns) → AllJumpAhead p → (n : ℕ) (q : Place) (v : Value) (k : Counts) → rest p c n q ≡ given v k
     → (events : List Event) × Runs p c q v events × (counts_of events ≡ k)
 given-runs p c ahead zero q v k e = absurd (nothing-given v k e)

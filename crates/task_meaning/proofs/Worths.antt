@@ -19,6 +19,7 @@ use Rattle.task_meaning.proofs.FromRuns.{rest-acts}
 use Rattle.task_meaning.proofs.Lists.{length-snoc, future_at-snoc, future_at-last}
 use Rattle.task_meaning.proofs.Renaming.{entry-renamed, act-renamed}
 
+-- the worths of more calls go on from those before
 pub from-append : (p : Program) (c : Columns) (n : ℕ) (earlier : List (Option Value)) (accepted more : List Accepted)
     → worths_from p c n earlier (accepted ++ more) ≡ worths_from p c n (worths_from p c n earlier accepted) more
 from-append p c n earlier [] more = refl
@@ -33,6 +34,7 @@ from-length p c n earlier (a ∷ accepted) =
     let l : length (earlier ++ w ∷ []) ≡ suc (length earlier) = length-snoc earlier w in
     omega (arith, e, l)
 
+-- there is a worth for each number, and one for 0
 pub worths-length : (p : Program) (c : Columns) (n : ℕ) (accepted : List Accepted) → length (worths p c n accepted) ≡ suc (length accepted)
 worths-length p c n accepted = let e = from-length p c n (None ∷ []) accepted in omega (arith, e)
 
@@ -44,6 +46,7 @@ from-earlier p c n earlier (a ∷ accepted) t h =
     let l : length (earlier ++ w ∷ []) ≡ suc (length earlier) = length-snoc earlier w in
     from-earlier p c n (earlier ++ w ∷ []) accepted t (omega (arith, h, l)) ∙ future_at-snoc earlier w t h
 
+-- later calls leave the worths before them
 pub later-worths : (p : Program) (c : Columns) (n : ℕ) (accepted more : List Accepted) (t : ℕ) → t ≤ length accepted
     → future_at (worths p c n (accepted ++ more)) t ≡ future_at (worths p c n accepted) t
 later-worths p c n accepted more t h =
@@ -57,6 +60,7 @@ AllStay-named ws vs h [] = tt
 AllStay-named ws vs h (None ∷ fs) = (tt, AllStay-named ws vs h fs)
 AllStay-named ws vs h (Some t ∷ fs) = (AllStay-at ws vs t h, AllStay-named ws vs h fs)
 
+-- more worths and more fuel keep what an accepted call means
 pub call-within : (p : Program) (c : Columns) (n m : ℕ) → n ≤ m → (ws vs : List (Option Value)) → AllStay ws vs → (call : CallOf ℕ)
     → Within (mean p c n (call_with (future_at ws) call)) (mean p c m (call_with (future_at vs) call))
 call-within p c n m e ws vs h call =
@@ -74,6 +78,7 @@ from-stay p c n m e [] ws vs h = h
 from-stay p c n m e (a ∷ accepted) ws vs h =
     from-stay p c n m e accepted _ _ (AllStay-append ws vs (worth_of p c n ws a ∷ []) (worth_of p c m vs a ∷ []) h (worth-stays p c n m e ws vs h a, tt))
 
+-- worths stay with more fuel
 pub worths-stay : (p : Program) (c : Columns) (n m : ℕ) → n ≤ m → (accepted : List Accepted) → AllStay (worths p c n accepted) (worths p c m accepted)
 worths-stay p c n m e accepted = from-stay p c n m e accepted (None ∷ []) (None ∷ []) (tt, tt)
 
@@ -81,6 +86,7 @@ worths-stay p c n m e accepted = from-stay p c n m e accepted (None ∷ []) (Non
 abbrev pub SameUpTo : ℕ → List (Option Value) → List (Option Value) → Type 0
 SameUpTo most ws vs = (t : ℕ) → t ≤ most → future_at ws t ≡ future_at vs t
 
+-- futures have the same values by the same worths
 pub futures-same : (most : ℕ) (ws vs : List (Option Value)) → SameUpTo most ws vs → (fs : List (Option ℕ)) → Each fs (NamesUpTo most)
     → map (renamed (future_at ws)) fs ≡ map (renamed (future_at vs)) fs
 futures-same most ws vs h [] names = refl
@@ -90,22 +96,26 @@ futures-same most ws vs h (Some t ∷ fs) names =
     let more = futures-same most ws vs h fs (λ at f e. names (suc at) f e) in
     λ i. first i ∷ more i
 
+-- a frame has the same place by the same worths
 pub frame-same : (most : ℕ) (ws vs : List (Option Value)) → SameUpTo most ws vs → (q : FrameOf ℕ) → Each q.futures (NamesUpTo most) → place_in ws q ≡ place_in vs q
 frame-same most ws vs h q names =
     let futures = futures-same most ws vs h q.futures names in
     λ i. record { kind = q.kind; state = q.state; at = q.at; numbers = q.numbers; futures = futures i }
 
+-- a call passes the same values by the same worths
 pub call-same : (most : ℕ) (ws vs : List (Option Value)) → SameUpTo most ws vs → (call : CallOf ℕ) → Each call.futures (NamesUpTo most)
     → call_with (future_at ws) call ≡ call_with (future_at vs) call
 call-same most ws vs h call names =
     let futures = futures-same most ws vs h call.futures names in
     λ i. record { kind = call.kind; numbers = call.numbers; futures = futures i }
 
+-- a task that is waited for has the same worth
 pub behind-same : (most : ℕ) (ws vs : List (Option Value)) → SameUpTo most ws vs → (waits : Option ℕ) → NamesUpTo most waits → (m : Meant)
     → behind waits ws m ≡ behind waits vs m
 behind-same most ws vs h None names m = refl
 behind-same most ws vs h (Some t) names m = ap (λ (o : Option Value). with_value o (λ v. m)) (h t names)
 
+-- tasks that are waited for have the same worths
 pub behind_all-same : (most : ℕ) (ws vs : List (Option Value)) → SameUpTo most ws vs → (members : List ℕ) → Each members (λ t. t ≤ most) → (m : Meant)
     → behind_all members ws m ≡ behind_all members vs m
 behind_all-same most ws vs h [] names m = refl
@@ -147,11 +157,13 @@ from-at p c n (b ∷ accepted) (suc at) a earlier most e l names =
     let longer : length (earlier ++ w ∷ []) ≡ suc (length earlier) = length-snoc earlier w in
     from-at p c n accepted at a (earlier ++ w ∷ []) most e (omega (arith, longer, l)) names
 
+-- a call that names earlier tasks is worth what it means by all worths
 pub call-worth : (p : Program) (c : Columns) (n : ℕ) (accepted : List Accepted) (at : ℕ) (call : CallOf ℕ) (waits : Option ℕ)
     → slice_get accepted at ≡ Some (OfCall call waits) → Each call.futures (NamesUpTo at) → NamesUpTo at waits
     → future_at (worths p c n accepted) (suc at) ≡ (behind waits (worths p c n accepted) (mean p c n (call_with (future_at (worths p c n accepted)) call))).value
 call-worth p c n accepted at call waits e names waited = from-at p c n accepted at (OfCall call waits) (None ∷ []) at e (omega arith) (names, waited)
 
+-- an aggregate of earlier tasks is worth what it means by all worths
 pub aggregate-worth : (p : Program) (c : Columns) (n : ℕ) (accepted : List Accepted) (at : ℕ) (members : List ℕ)
     → slice_get accepted at ≡ Some (OfAll members) → Each members (λ t. t ≤ at)
     → future_at (worths p c n accepted) (suc at) ≡ (behind_all members (worths p c n accepted) (gives (Number 0))).value
@@ -165,6 +177,7 @@ behind-value (Some t) ws m more e = go (future_at ws t)
     go None = refl
     go (Some v) = e
 
+-- the first frame of a call gives the call's worth
 pub first_frame-value : (p : Program) (c : Columns) (n : ℕ) (accepted : List Accepted) (at : ℕ) (call : CallOf ℕ) (waits : Option ℕ)
     → slice_get accepted at ≡ Some (OfCall call waits) → Each call.futures (NamesUpTo at) → NamesUpTo at waits
     → (rest_of p c n accepted waits (entry p call)).value ≡ future_at (worths p c n accepted) (suc at)
@@ -174,6 +187,7 @@ first_frame-value p c n accepted at call waits e names waited =
     (ap (λ (q : Place). (rest p c n q).value) (entry-renamed (future_at ws) p call))
     ∙ sym (call-worth p c n accepted at call waits e names waited)
 
+-- later calls change nothing of what follows from a frame
 pub later-rest : (p : Program) (c : Columns) (n : ℕ) (accepted more : List Accepted) (waits : Option ℕ) (q : FrameOf ℕ)
     → Each q.futures (NamesUpTo (length accepted)) → NamesUpTo (length accepted) waits
     → rest_of p c n (accepted ++ more) waits q ≡ rest_of p c n accepted waits q
@@ -188,6 +202,7 @@ later-rest p c n accepted more waits q names waited =
 pub acts-in : (p : Program) (c : Columns) (ws : List (Option Value)) (q : FrameOf ℕ) (act : Act ℕ) → ActsAt p c q act → ActsAt p c (place_in ws q) (act_with (future_at ws) act)
 acts-in p c ws q act (line, e, a) = (line, e, act-renamed (future_at ws) c line.instr q ∙ ap (act_with (future_at ws)) a)
 
+-- after a step the same follows
 pub steps-rest : (p : Program) (c : Columns) (n : ℕ) → AllJumpAhead p → (ws : List (Option Value)) (q next : FrameOf ℕ) → ActsAt p c q (Steps next)
     → rest p c n (place_in ws q) ≡ rest p c n (place_in ws next)
 steps-rest p c zero ahead ws q next at = refl
