@@ -8,6 +8,7 @@ use Rattle.task_check.specs.Known.{Question, IsAbout, says, knows, answer_after,
 use Rattle.task_check.specs.Ways.{Agreed, IsArrived, IsJoined}
 use Rattle.task_check.proofs.Answers.{says-after, comes-after, Comes, fixed, from}
 
+-- what facts agree in stays for the same facts and the same answers
 pub agreed-same : (n : ℕ) (S T : Facts → Type 0) (a b : Question → Bool) → ((f : Facts) → S f → T f) → ((f : Facts) → T f → S f)
     → ((q : Question) → IsAbout n q → b q ≡ a q) → Agreed n S a → Agreed n T b
 agreed-same n S T a b to back same g = record {
@@ -16,6 +17,7 @@ agreed-same n S T a b to back same g = record {
   whole = λ q about each. same q about ∙ g.whole q about (λ f member. each f (to f member));
 }
 
+-- one way's facts agree in what they say
 pub agreed-one : (n : ℕ) (g : Facts) (a : Question → Bool) → ((q : Question) → IsAbout n q → a q ≡ says q g) → Agreed n (λ f. f ≡ g) a
 agreed-one n g a same = record {
   some = (g, refl);
@@ -26,6 +28,7 @@ agreed-one n g a same = record {
 and_true : (a b : Bool) → a ≡ true → b ≡ true → (a && b) ≡ true
 and_true a b e f = rw (e, f) refl
 
+-- facts from two sides agree in what both sides agree in
 pub agreed-both : (n : ℕ) (S T : Facts → Type 0) (a b c : Question → Bool) → ((q : Question) → IsAbout n q → c q ≡ (a q && b q))
     → Agreed n S a → Agreed n T b → Agreed n (λ f. S f ⊎ T f) c
 agreed-both n S T a b c same g h = record {
@@ -39,6 +42,7 @@ agreed-both n S T a b c same g h = record {
 abbrev pub Behind : Instr → (Facts → Type 0) → Facts → Type 0
 Behind instr S f = (g : Facts) × S g × (f ≡ after instr g)
 
+-- after an instruction facts agree in what it makes of the answers
 pub agreed-after : (n : ℕ) (S : Facts → Type 0) (a b : Question → Bool) (instr : Instr) → IsWithin n instr
     → ((q : Question) → IsAbout n q → b q ≡ answer_after instr a q) → Agreed n S a → Agreed n (Behind instr S) b
 agreed-after n S a b instr within same g = record {
@@ -61,9 +65,11 @@ pub arrived-same : (n : ℕ) (S T : Facts → Type 0) → ((f : Facts) → S f �
 arrived-same n S T to back None none = λ f t. none f (back f t)
 arrived-same n S T to back (Some k) some = (some.0, agreed-same n S T (λ q. knows q k) (λ q. knows q k) to back (λ q about. refl) some.1)
 
+-- where nothing more arrives, what is kept stays right
 pub arrived-kept : (n : ℕ) (S T : Facts → Type 0) (P : Type 0) → ¬ P → (slot : Option Known) → IsArrived n S slot → IsArrived n (λ f. S f ⊎ (P × T f)) slot
 arrived-kept n S T P not_so slot arrived = arrived-same n S (λ f. S f ⊎ (P × T f)) (λ f s. inl s) (λ f m. elim m [ inl s ↦ s | inr t ↦ absurd (not_so t.0) ]) slot arrived
 
+-- where facts arrive, what is joined is right
 pub arrived-joined : (n : ℕ) (S T : Facts → Type 0) (P : Type 0) → P → (k : Known) → vec_len k.members ≡ n → Agreed n T (λ q. knows q k)
     → (before slot : Option Known) → IsArrived n S before → IsJoined n before k slot → IsArrived n (λ f. S f ⊎ (P × T f)) slot
 arrived-joined n S T P so k long agreed None slot none joined =

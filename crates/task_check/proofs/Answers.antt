@@ -14,6 +14,7 @@ nat_eq-same x y e = (eq-eqb x y e, eq-eqb y x (sym e))
 nat_eq-other : (x y : ℕ) → x ≢ y → (nat_eq x y ≡ false) × (nat_eq y x ≡ false)
 nat_eq-other x y n = (not_eq x y n, not_eq y x (λ e. n (sym e)))
 
+-- a list without x has what it had, but x
 pub has-without : (x y : ℕ) (ys : List ℕ) → has y (without x ys) ≡ (not (nat_eq x y) && has y ys)
 has-without x y [] = elim (cases_eq x y) [ inl e ↦ rw ((nat_eq-same x y e).0) refl | inr n ↦ rw ((nat_eq-other x y n).0) refl ]
 has-without x y (z ∷ zs) = elim (cases_eq x z) [
@@ -138,6 +139,7 @@ comes-given_up n x (member g y) a = elim (cases_eq x y) [
   ]
 ]
 
+-- each answer after an instruction is fixed, or is an answer before it
 pub comes-after : (n : ℕ) (instr : Instr) → IsWithin n instr → (q : Question) → IsAbout n q → Comes n (λ answer. answer_after instr answer q)
 comes-after n (Spawn to callee arguments behind priority retry) w q a =
     comes-renewed n to (λ answer. false) (λ y answer. false) (fixed false (λ answer. refl)) (λ y h. fixed false (λ answer. refl)) q a

@@ -33,10 +33,12 @@ precedes-right f g l c p = rw (l, c) (no_later f.line (rank f.cause) g.position 
 apart : (b : Bool) → b ≡ false → b ≡ true → ⊥
 apart b p q = cc
 
+-- the first fault is the same for the same faults
 pub first-same : (P Q : Found → Type 0) → ((f : Found) → P f → Q f) → ((f : Found) → Q f → P f) → (r : Option Found) → IsFirst P r → IsFirst Q r
 first-same P Q to back None first = λ f q. first f (back f q)
 first-same P Q to back (Some f) first = (to f first.0, λ g q. first.1 g (back g q))
 
+-- the earlier of two first faults is the first of all
 pub first-earlier : (P Q : Found → Type 0) (a b : Option Found) → IsFirst P a → IsFirst Q b → IsFirst (λ f. P f ⊎ Q f) (earlier_of a b)
 first-earlier P Q None None first second = λ f m. elim m [ inl p ↦ first f p | inr q ↦ second f q ]
 first-earlier P Q None (Some g) first second = (inr second.0, λ h m. elim m [ inl p ↦ absurd (first h p) | inr q ↦ second.1 h q ])
@@ -54,6 +56,7 @@ first-earlier P Q (Some f) (Some g) first second = by (precedes g f) refl where
 abbrev pub Below : {X : Type 0} → List X → (ℕ → X → Found → Type 0) → ℕ → Found → Type 0
 Below {X} xs P n f = (i : ℕ) × (x : X) × (i < n) × (slice_get xs i ≡ Some x) × P i x f
 
+-- of no members there is no fault
 pub first-start : {X : Type 0} (xs : List X) (P : ℕ → X → Found → Type 0) → IsFirst (Below xs P 0) None
 first-start xs P = λ f m. let h : m.0 < 0 = m.2 in absurd (omega arith)
 
@@ -62,6 +65,7 @@ last-place xs P n x here i y f e s p =
     let same : y ≡ x = (let t : slice_get xs n ≡ Some y = subst (λ k. slice_get xs k ≡ Some y) e s in cc) in
     subst (λ k. P n k f) same (subst (λ k. P k y f) e p)
 
+-- one more member, and its first fault
 pub first-more : {X : Type 0} (xs : List X) (P : ℕ → X → Found → Type 0) (n : ℕ) (x : X) (a b : Option Found) → slice_get xs n ≡ Some x
     → IsFirst (Below xs P n) a → IsFirst (P n x) b → IsFirst (Below xs P (n + 1)) (earlier_of a b)
 first-more xs P n x a b here first second =
@@ -73,11 +77,13 @@ first-more xs P n x a b here first second =
     ])
     (earlier_of a b) (first-earlier (Below xs P n) (P n x) a b first second)
 
+-- what stands in a list stands inside it
 pub place-within : {X : Type 0} (xs : List X) (i : ℕ) (x : X) → slice_get xs i ≡ Some x → i < length xs
 place-within [] i x e = cc
 place-within (y ∷ ys) zero x e = omega arith
 place-within (y ∷ ys) (suc i) x e = let h : i < length ys = place-within ys i x e in omega arith
 
+-- the first fault of all members is that of the list
 pub first-all : {X : Type 0} (xs : List X) (P : ℕ → X → Found → Type 0) (n : ℕ) (r : Option Found) → length xs ≤ n → IsFirst (Below xs P n) r → IsFirst (λ f. SomeAt xs (λ i x. P i x f)) r
 first-all xs P n r h first = first-same (Below xs P n) (λ f. SomeAt xs (λ i x. P i x f)) (λ f m. (m.0, m.1, m.3, m.4))
     (λ f m. let k : m.0 < length xs = place-within xs m.0 m.1 m.2 in (m.0, m.1, omega arith, m.2, m.3)) r first

@@ -1,16 +1,15 @@
 -- In a valid program what is handed over as held is held, and what is handed over as settled is settled, or will be.
-use Rattle.std.proofs.Common.{◌≡◌, ℕ, ◌<◌, ◌≤◌, Option, Some, None, List, length, slice_get, sym, ◌∙◌, ap, subst, inl, inr, arith, IfSome, IsTrue}
+use Rattle.std.proofs.Common.{◌≡◌, ℕ, ◌<◌, ◌≤◌, Option, Some, None, List, length, slice_get, sym, ◌∙◌, ap, inl, inr, arith, IsTrue}
 use Rattle.std.specs.Option.{option_map}
-use Rattle.task_syntax.specs.Places.{Each, sort_at, IsFutureAt}
-use Rattle.task_syntax.specs.Form.{IsWellFormed, IsFormedState, IsFormedKind}
+use Rattle.task_syntax.specs.Places.{Each, IsFutureAt}
+use Rattle.task_syntax.specs.Form.{IsWellFormed, IsFormedKind}
 use Rattle.task_syntax.specs.Facts.{Facts, has}
-use Rattle.task_syntax.specs.Valid.{Way, WillSettle, Agrees, HeldArgument, WillSettleArgument, SpawnsSoundly, RespawnsSoundly, IsSoundInstr, IsSoundState, IsSoundKind, IsBehind, IsSoundRoot, IsValid, sort_of, sort_of_root}
+use Rattle.task_syntax.specs.Valid.{Way, WillSettle, Agrees, HeldArgument, WillSettleArgument, SpawnsSoundly, RespawnsSoundly, IsSoundState, IsSoundKind, IsBehind, IsSoundRoot, IsValid, sort_of, sort_of_root}
 use Rattle.task_syntax.specs.declared.program.Sort.{Sort}
 use Rattle.task_syntax.specs.declared.program.Sort.TheVariants as sort
 use Rattle.task_syntax.specs.declared.program.Variable.{Variable}
 use Rattle.task_syntax.specs.declared.instr.Argument.{Argument}
 use Rattle.task_syntax.specs.declared.instr.Argument.TheVariants as argument
-use Rattle.task_syntax.specs.declared.instr.Instr.TheVariants.{Spawn, Again}
 use Rattle.task_syntax.specs.declared.program.RootArgument.{RootArgument}
 use Rattle.task_syntax.specs.declared.program.RootArgument.TheVariants as root_argument
 use Rattle.task_syntax.specs.declared.program.State.{State}
@@ -81,12 +80,14 @@ module _ (p : Program) (formed : IsWellFormed p) (valid : IsValid p) where
   sound-at : (kind : Kind) (state : State) → IsStateOf p kind state → IsSoundState p kind state
   sound-at kind state s = (valid.kinds s.kind_at kind s.is_kind).states s.state_at state s.is_state
 
+  -- what an entry state settles is passed, and is settled or will be
   pub spawns-settled : (kind : Kind) (state : State) → IsStateOf p kind state
       → (at : ℕ) (entry : State) (arguments : List Argument) (behind : Option ℕ) → IsSpawnAt p state at entry arguments behind
       → (f : Facts) → Way state at f → Each entry.settled (PassesFuture arguments (IsSettledBehind f behind))
   spawns-settled kind state of_kind at entry arguments behind s f way =
       spawn-settled state at entry arguments behind s ((sound-at kind state of_kind).instrs at _ s.stands s.kind s.is_kind) f way
 
+  -- what an entry state holds is passed, and is held
   pub spawns-held : (kind : Kind) (state : State) → IsStateOf p kind state
       → (at : ℕ) (entry : State) (arguments : List Argument) (behind : Option ℕ) → IsSpawnAt p state at entry arguments behind
       → (f : Facts) → Way state at f → Each entry.holds (PassesFuture arguments (λ x. IsTrue (has x f.held)))
@@ -97,17 +98,20 @@ module _ (p : Program) (formed : IsWellFormed p) (valid : IsValid p) where
       → RespawnsSoundly target state at behind
   respawn-sound kind state of_kind at target behind s = (sound-at kind state of_kind).instrs at _ s.stands target s.is_target
 
+  -- what a target settles is settled, or will be
   pub respawns-settled : (kind : Kind) (state : State) → IsStateOf p kind state
       → (at : ℕ) (target : State) (behind : Option ℕ) → IsRespawnAt kind state at target behind
       → (f : Facts) → Way state at f → Each target.settled (IsSettledBehind f behind)
   respawns-settled kind state of_kind at target behind s f way i x e =
       will-on_way state at f way behind x ((respawn-sound kind state of_kind at target behind s).settled i x e)
 
+  -- what a target holds is held
   pub respawns-held : (kind : Kind) (state : State) → IsStateOf p kind state
       → (at : ℕ) (target : State) (behind : Option ℕ) → IsRespawnAt kind state at target behind
       → (f : Facts) → Way state at f → Each target.holds (λ x. IsTrue (has x f.held))
   respawns-held kind state of_kind at target behind s f way i x e = (respawn-sound kind state of_kind at target behind s).held i x e f way
 
+  -- what a root passes as settled is its predecessor
   pub roots-predecessor : (root : Root) (kind : Kind) (entry : State)
       → ((position : ℕ) × (slice_get p.roots position ≡ Some root)) → slice_get p.kinds root.kind ≡ Some kind → slice_get kind.states 0 ≡ Some entry
       → Each entry.settled (λ position. (r : ℕ) × (slice_get root.arguments position ≡ Some (root_argument.Root r)) × (root.behind ≡ Some r))

@@ -1,10 +1,9 @@
 -- On each way in a valid program, what is settled is held, and so are members and what they are members of.
-use Rattle.std.proofs.Common.{◌≡◌, ℕ, ◌+◌, Bool, true, false, not, ◌&&◌, ◌||◌, cond, nat_eq, Some, List, slice_get, refl, sym, ◌∙◌, ap, subst, IsTrue}
+use Rattle.std.proofs.Common.{◌≡◌, ℕ, Bool, true, false, not, ◌&&◌, ◌||◌, cond, nat_eq, refl, sym, ◌∙◌, ap, IsTrue}
 use Rattle.std.proofs.lemmas.Bool.{eqb-true, eq-eqb}
-use Rattle.task_syntax.proofs.Bools.{both, either, or_right}
-use Rattle.task_syntax.specs.Places.{Each, instr_at}
+use Rattle.task_syntax.proofs.Bools.{both, or_right}
 use Rattle.task_syntax.specs.Facts.{Facts, has, after}
-use Rattle.task_syntax.specs.Valid.{Way, starts, unreached, goes_on, jumps, Held, IsSoundInstr, IsSoundState}
+use Rattle.task_syntax.specs.Valid.{Way, starts, unreached, goes_on, jumps, IsSoundInstr, IsSoundState}
 use Rattle.task_syntax.specs.declared.instr.Instr.{Instr}
 use Rattle.task_syntax.specs.declared.instr.Instr.TheVariants.{Set, Math, If, Goto, Label, Cell, Rows, Spawn, All, Copy, Drop, Get, Again, Done}
 use Rattle.task_syntax.specs.declared.program.State.{State}
@@ -110,6 +109,7 @@ way-held p kind state sound at f (goes_on {at = b} {f = g} instr way stands on) 
     (after-held p kind state b instr g way (sound.instrs b instr stands) (way-held p kind state sound b g way))
 way-held p kind state sound at f (jumps {at = b} instr to way stands j) = way-held p kind state sound b f way
 
+-- on each way what is settled, or a member, is held
 pub known-held : (p : Program) (kind : Kind) (state : State) → IsSoundState p kind state → (at : ℕ) (f : Facts) → Way state at f
     → ((x : ℕ) → IsTrue (has x f.settled) → IsTrue (has x f.held))
     × ((g x : ℕ) → says (member g x) f ≡ true → IsTrue (has g f.held) × IsTrue (has x f.held))

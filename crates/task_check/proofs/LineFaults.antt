@@ -61,6 +61,7 @@ needs-spawn p kind known line instr to callee arguments behind priority retry k 
     ))
     r (first entry starts))
 
+-- what the target of a respawn lacks
 pub needs-again : (p : Program) (kind : Kind) (known : Known) (line : ℕ) (instr : Instr) (target : ℕ) (behind : Option ℕ) (priority : _) (next : State)
     → instr ≡ Again target behind priority → slice_get kind.states target ≡ Some next → (r : Option Found)
     → IsFirst (λ f. LackingFault line StateNeeds 0 kind next.holds (λ x. IsTrue (in_set x known.held)) f
@@ -202,6 +203,7 @@ module _ (p : Program) (kind : Kind) (state : State) (at : ℕ) (known : Known) 
   ))
   by-cause line formed f l StateNeeds e h = inr (inr (l, e, way-needs line.instr formed f.position f.name h))
 
+  -- the earliest of a line's four faults is its first
   pub line-first : (line : Line) → IsFormedLine p kind line.instr → (a b c d : Option Found) → IsFirst (Misfits line) a → IsFirst (Unheld line) b → IsFirst (Unsettled line) c → IsFirst (Needy line) d
       → IsFirst (LineFault p kind state at line) (earlier_of (earlier_of a b) (earlier_of c d))
   line-first line formed a b c d first_a first_b first_c first_d =

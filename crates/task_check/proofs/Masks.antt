@@ -9,9 +9,11 @@ use Rattle.std.proofs.lemmas.Nat.Bits.{bit_at_or, bit_at_and, bit_at-lt, bit_at_
 use Rattle.std.specs.Prelude.{bit_and, bit_or}
 use Rattle.std.specs.Int.{bit_at, bit_not}
 
+-- a position is in the set of a mask
 abbrev pub in_words : ℕ → List ℕ → Bool
 in_words x words = nat_eq (bit_at (get_or words (x / 64) 0) (x % 64)) 1
 
+-- different numbers do not pass the test
 pub not_eq : (a b : ℕ) → a ≢ b → nat_eq a b ≡ false
 not_eq a b n = grind (arith, nat_tests)
 
@@ -23,6 +25,7 @@ in_same : (words : List ℕ) (i v x : ℕ) → i < length words → x / 64 ≡ i
 in_same words i v x h e = ap (λ w. nat_eq (bit_at w (x % 64)) 1) (get_or-set_at words i (x / 64) v 0 e h)
 
 module _ (words : List ℕ) (position : ℕ) (long : length words ≡ 4) (small : position < 256) where
+  -- a mask with one more position
   pub in_words-with : (x : ℕ) → in_words x (set words (position / 64) (bit_or (get_or words (position / 64) 0) (1 * 2 ^ (position % 64) % 2 ^ 64))) ≡ (nat_eq x position || in_words x words)
   in_words-with x =
       let word : ℕ = bit_or (get_or words (position / 64) 0) (1 * 2 ^ (position % 64) % 2 ^ 64) in
@@ -44,6 +47,7 @@ module _ (words : List ℕ) (position : ℕ) (long : length words ≡ 4) (small 
         ]
       ]
 
+  -- a mask with one position less
   pub in_words-without : (x : ℕ) → in_words x (set words (position / 64) (bit_and (get_or words (position / 64) 0) (bit_not w64 (1 * 2 ^ (position % 64) % 2 ^ 64)))) ≡ (not (nat_eq position x) && in_words x words)
   in_words-without x =
       let word : ℕ = bit_and (get_or words (position / 64) 0) (bit_not w64 (1 * 2 ^ (position % 64) % 2 ^ 64)) in
@@ -93,12 +97,14 @@ module _ (f : ℕ → ℕ → ℕ) (empty : f 0 0 ≡ 0) (a b c : List ℕ) (len
         ∙ (ap (λ v. f v 0) (sym (get_or-eq_default a 0 (omega arith))) ∙ ap (λ v. f (get_or a k 0) v) (sym (get_or-eq_default b 0 (omega arith)))))
   ]
 
+-- the mask of what two sets share
 pub in_words-and : (a b c : List ℕ) → length a ≡ 4 → length b ≡ 4 → length c ≡ 4 → ((k : ℕ) → k < 4 → get_or c k 0 ≡ bit_and (get_or a k 0) (get_or b k 0)) → (x : ℕ) → in_words x c ≡ (in_words x a && in_words x b)
 in_words-and a b c la lb lc each x =
     ap (λ w. nat_eq (bit_at w (x % 64)) 1) (each_word bit_and refl a b c la lb lc each (x / 64))
     ∙ (ap (λ v. nat_eq v 1) (bit_at_and (get_or a (x / 64) 0) (get_or b (x / 64) 0) (x % 64))
     ∙ min_is (bit_at (get_or a (x / 64) 0) (x % 64)) (bit_at (get_or b (x / 64) 0) (x % 64)) (bit_at-lt _ _) (bit_at-lt _ _))
 
+-- the mask of what two sets have together
 pub in_words-or : (a b c : List ℕ) → length a ≡ 4 → length b ≡ 4 → length c ≡ 4 → ((k : ℕ) → k < 4 → get_or c k 0 ≡ bit_or (get_or a k 0) (get_or b k 0)) → (x : ℕ) → in_words x c ≡ (in_words x a || in_words x b)
 in_words-or a b c la lb lc each x =
     ap (λ w. nat_eq (bit_at w (x % 64)) 1) (each_word bit_or refl a b c la lb lc each (x / 64))

@@ -19,24 +19,30 @@ use Rattle.task_check.specs.Ways.{Agreed, Arrives, at_first, IsArrived, AreArriv
 use Rattle.task_check.proofs.Agreed.{agreed-same, agreed-one, agreed-after, arrived-same, arrived-kept, arrived-joined, Behind}
 use Rattle.task_check.proofs.Places.{OneMore, arrives-more, more-arrives, arrives-none, arrived-way, nothing-way, unreached-here, decided, formed-at, formed-within, jumps-or-not, goes-on-or-not}
 
+-- inside a list something stands
 pub some-inside : {X : Type 0} (xs : List X) (at : ℕ) → at < length xs → (x : X) × (slice_get xs at ≡ Some x)
 some-inside [] at h = absurd (omega arith)
 some-inside (x ∷ xs) zero h = (x, refl)
 some-inside (x ∷ xs) (suc at) h = some-inside xs at (omega arith)
 
+-- two facts on a result give a third
 pub both-ok : {X E : Type 0} (r : Result X E) (P Q R : X → Type 0) → ((x : X) → P x → Q x → R x) → IfOk r P → IfOk r Q → IfOk r R
 both-ok (Ok x) P Q R f p q = f x p q
 both-ok (Err e) P Q R f p q = p
 
+-- a target is the place that it names
 pub same-target : (target at : ℕ) → Some target ≡ Some at → at ≡ target
 same-target target at e = cc
 
+-- no target names no place
 pub no-target : (at : ℕ) → None ≡ Some at → ⊥
 no-target at e = cc
 
+-- what is known is not nothing
 pub not-none : (k : Known) → Some k ≡ None → ⊥
 not-none k e = cc
 
+-- false is not true
 pub is-false : false ≡ true → ⊥
 is-false e = cc
 
@@ -53,6 +59,7 @@ set-same [] at x y e = cc
 set-same (z ∷ zs) zero x y e = refl
 set-same (z ∷ zs) (suc at) x y e = set-same zs at x y e
 
+-- what is taken from a place leaves it empty, and the others as they were
 pub takes : (n at : ℕ) (xs : List (Option Known)) (here left : Option Known) (k : Known) → left ≡ None → slice_get xs at ≡ Some here → AreSized n xs → ((o : Known) → here ≡ Some o → k ≡ o)
     → (here ≡ None → (vec_len k.members ≡ n) × ((q : Question) → IsAbout n q → knows q k ≡ false)) → Takes n at k xs (slice_set xs at left)
 takes n at xs here left k empty stands sized known none = record {
@@ -78,9 +85,11 @@ brings-same n To Also k old new to back b = record {
   kept = λ at not_so. b.kept at (λ t. not_so (to at t));
 }
 
+-- what is brought to places is brought to the same places
 pub passes-same : (n : ℕ) (answer : Question → Bool) (To Also : ℕ → Type 0) (old new : List (Option Known)) → ((at : ℕ) → To at → Also at) → ((at : ℕ) → Also at → To at) → Passes n answer To old new → Passes n answer Also old new
 passes-same n answer To Also old new to back p = (p.0, p.1, p.2, brings-same n To Also p.0 old new to back p.3)
 
+-- what is brought nowhere leaves all as it was
 pub passes-none : (n : ℕ) (answer : Question → Bool) (To : ℕ → Type 0) (k : Known) (xs : List (Option Known)) → vec_len k.members ≡ n → ((q : Question) → IsAbout n q → knows q k ≡ answer q) → ((at : ℕ) → ¬ To at) → Passes n answer To xs xs
 passes-none n answer To k xs sized same none = (
   k,
@@ -123,6 +132,7 @@ passes-sized n answer To old new decide p sized at o e = elim (decide at) [
   by : (before : Option Known) × (slice_get old at ≡ Some before) → To at → vec_len o.members ≡ n
   by (before, here) so = size before (p.3.brought at before (Some o) here e so)
 
+-- what is taken leaves each size
 pub takes-sized : (n at : ℕ) (k : Known) (old new : List (Option Known)) → Takes n at k old new → AreSized n old → AreSized n new
 takes-sized n at k old new taken sized to o e = elim (cases_eq to at) [
   | inl same ↦ let gone : Some (Some o) ≡ Some None = sym e ∙ (ap (λ i. slice_get new i) same ∙ taken.emptied) in cc
@@ -143,6 +153,7 @@ module _ (p : Program) (kind : Kind) (state : State) (formed : IsFormedState p k
     by : (slot : Option Known) × (slice_get old at ≡ Some slot) → Agreed (length kind.variables) (Way state at) (λ q. knows q k)
     by (slot, here) = slots slot here (arrived.each at slot (omega arith) here)
 
+  -- after one more line each later place keeps what arrives there
   pub arrived-next : (instr : Instr) → instr_at state at ≡ Some instr → (k : Known) (old took jumped new : List (Option Known))
       → AreArrived (length kind.variables) state at old → Takes (length kind.variables) at k old took → Passes (length kind.variables) (λ q. knows q k) (JumpsTo instr) took jumped
       → Passes (length kind.variables) (answer_after instr (λ q. knows q k)) (GoesOnTo instr at) jumped new → AreArrived (length kind.variables) state (at + 1) new
@@ -226,6 +237,7 @@ instr-inside [] at instr e = cc
 instr-inside (l ∷ lines) zero instr e = omega arith
 instr-inside (l ∷ lines) (suc at) instr e = let h : at < length lines = instr-inside lines at instr e in omega arith
 
+-- a jump leads to a place of the state
 pub jump-inside : (p : Program) (kind : Kind) (state : State) (at : ℕ) (instr : Instr) (to : ℕ) → IsFormedInstr p kind state at instr → JumpsTo instr to → to < length state.code
 jump-inside p kind state at (If relation left right target) to formed j = subst (λ t. t < length state.code) j (instr-inside state.code target formed.2.1.0 formed.2.1.1)
 jump-inside p kind state at (Goto target) to formed j = subst (λ t. t < length state.code) j (instr-inside state.code target formed.1.0 formed.1.1)
@@ -258,6 +270,7 @@ ends-leaves (Copy a b) e = absurd e
 ends-leaves (Drop a) e = absurd e
 ends-leaves (Get a b) e = absurd e
 
+-- a line that goes on has a next line
 pub next-inside : (p : Program) (kind : Kind) (state : State) → IsFormedState p kind state → (at : ℕ) (instr : Instr) → instr_at state at ≡ Some instr → at < length state.code → ¬ Leaves instr → at + 1 < length state.code
 next-inside p kind state formed at instr stands inside goes = elim (cases_eq at formed.ends.0) [
   | inl e ↦ absurd (goes (ends-leaves instr (subst Ends (let s : Some formed.ends.1 ≡ Some instr = sym formed.ends.3 ∙ subst (λ k. instr_at state k ≡ Some instr) e stands in cc) formed.ends.4)))

@@ -24,6 +24,7 @@ line-at [] at instr e = cc
 line-at (l ∷ lines) zero instr e = (l, refl, cc)
 line-at (l ∷ lines) (suc at) instr e = line-at lines at instr e
 
+-- the instruction at a place of a well-formed state is well formed
 pub formed-at : (p : Program) (kind : Kind) (state : State) → IsFormedState p kind state → (at : ℕ) (instr : Instr) → instr_at state at ≡ Some instr → IsFormedInstr p kind state at instr
 formed-at p kind state formed at instr stands = let l = line-at state.code at instr stands in
     subst (λ i. IsFormedInstr p kind state at i) l.2 (formed.instrs at l.0 l.1)
@@ -62,6 +63,7 @@ jumps-or-not (Get a b) to = inr (λ j. j)
 jumps-or-not (Again a b c) to = inr (λ j. j)
 jumps-or-not (Done a) to = inr (λ j. j)
 
+-- whether an instruction leaves
 pub leaves-or-not : (instr : Instr) → Leaves instr ⊎ (¬ Leaves instr)
 leaves-or-not (If a b c d) = inr (λ j. j)
 leaves-or-not (Goto target) = inl tt
@@ -78,6 +80,7 @@ leaves-or-not (Get a b) = inr (λ j. j)
 leaves-or-not (Again a b c) = inl tt
 leaves-or-not (Done a) = inl tt
 
+-- whether an instruction goes on to a place
 pub goes-on-or-not : (instr : Instr) (at to : ℕ) → GoesOnTo instr at to ⊎ (¬ GoesOnTo instr at to)
 goes-on-or-not instr at to = elim (cases_eq to (at + 1)) [
   | inl e ↦ elim (leaves-or-not instr) [ inl l ↦ inr (λ g. g.1 l) | inr n ↦ inl (e, n) ]
@@ -93,12 +96,14 @@ arrives-way state lines at f at_first = starts
 arrives-way state lines at f (by_line instr h way s n) = goes_on instr way s n
 arrives-way state lines at f (by_jump instr to h way s j) = jumps instr to way s j
 
+-- a way to a place arrives there from the lines before, or begins there
 pub way-arrives : (p : Program) (kind : Kind) (state : State) → IsFormedState p kind state → (at : ℕ) (f : Facts) → Way state at f → (IsUnreachedLabel state at × (f ≡ nothing_held)) ⊎ Arrives state at at f
 way-arrives p kind state formed at f starts = inr at_first
 way-arrives p kind state formed at f (unreached u) = inl (u, refl)
 way-arrives p kind state formed at f (goes_on {at = b} instr way s n) = inr (by_line instr (omega arith) way s n)
 way-arrives p kind state formed at f (jumps {at = b} instr to way s j) = inr (by_jump instr to (jump-ahead p kind state b instr to (formed-at p kind state formed b instr s) j) way s j)
 
+-- nothing arrives at a label that nothing reaches
 pub arrives-reached : (state : State) (lines at : ℕ) (f : Facts) → IsUnreachedLabel state at → Arrives state lines at f → ⊥
 arrives-reached state lines at f u at_first = absurd (let e : 0 ≡ u.before + 1 = u.follows in omega arith)
 arrives-reached state lines at f u (by_line {at = b} instr h way s n) =
@@ -110,6 +115,7 @@ arrives-reached state lines at f u (by_jump {at = b} instr to h way s j) = u.no_
 abbrev pub OneMore : State → ℕ → Instr → ℕ → Facts → Type 0
 OneMore state at instr to f = (Arrives state at to f ⊎ (JumpsTo instr to × Way state at f)) ⊎ (GoesOnTo instr at to × Behind instr (Way state at) f)
 
+-- what arrives from one more line came before, or comes from that line
 pub arrives-more : (state : State) (at : ℕ) (instr : Instr) → instr_at state at ≡ Some instr → (to : ℕ) (f : Facts) → Arrives state (at + 1) to f → OneMore state at instr to f
 arrives-more state at instr stands to f at_first = inl (inl at_first)
 arrives-more state at instr stands to f (by_line {at = b} {f = g} i h way s n) = elim (cases_lt b at) [
@@ -127,11 +133,13 @@ arrives-more state at instr stands to f (by_jump {at = b} i t h way s j) = elim 
       inl (inr (subst (λ k. JumpsTo k t) same j, subst (λ k. Way state k f) e way))
 ]
 
+-- what arrives from the lines before arrives from one more
 pub arrives-earlier : (state : State) (at to : ℕ) (f : Facts) → Arrives state at to f → Arrives state (at + 1) to f
 arrives-earlier state at to f at_first = at_first
 arrives-earlier state at to f (by_line {at = b} i h way s n) = by_line i (omega arith) way s n
 arrives-earlier state at to f (by_jump {at = b} i t h way s j) = by_jump i t (omega arith) way s j
 
+-- what one more line brings arrives
 pub more-arrives : (state : State) (at : ℕ) (instr : Instr) → instr_at state at ≡ Some instr → (to : ℕ) (f : Facts) → OneMore state at instr to f → Arrives state (at + 1) to f
 more-arrives state at instr stands to f (inl (inl a)) = arrives-earlier state at to f a
 more-arrives state at instr stands to f (inl (inr j)) = by_jump instr to (omega arith) j.1 stands j.0
@@ -144,6 +152,7 @@ named-within f [] i y e = cc
 named-within f (x ∷ xs) zero y e = omega arith
 named-within f (x ∷ xs) (suc i) y e = let h : i < length xs = named-within f xs i y e in omega arith
 
+-- a future variable is a variable of the kind
 pub future-within : (kind : Kind) (x : ℕ) → IsFutureAt kind x → x < length kind.variables
 future-within kind x e = named-within (λ (v : Variable). v.sort) kind.variables x sort.Future e
 
@@ -151,6 +160,7 @@ behind-within : (kind : Kind) (behind : Option ℕ) → IfSome behind (IsFutureA
 behind-within kind None h = tt
 behind-within kind (Some g) h = future-within kind g h
 
+-- the futures that a well-formed instruction names are variables of the kind
 pub formed-within : (p : Program) (kind : Kind) (state : State) (at : ℕ) (instr : Instr) → IsFormedInstr p kind state at instr → IsWithin (length kind.variables) instr
 formed-within p kind state at (Spawn to callee arguments behind priority retry) f = (future-within kind to f.0, behind-within kind behind f.4)
 formed-within p kind state at (All to members priority retry) f = (future-within kind to f.0, λ i x e. future-within kind x (f.3 i x e))
@@ -172,6 +182,7 @@ instr-in [] at h = absurd (omega arith)
 instr-in (l ∷ lines) zero h = (l.instr, refl)
 instr-in (l ∷ lines) (suc at) h = instr-in lines at (omega arith)
 
+-- at each place of a state stands an instruction
 pub instr-exists : (state : State) (at : ℕ) → at < length state.code → (instr : Instr) × (instr_at state at ≡ Some instr)
 instr-exists state at h = instr-in state.code at h
 
@@ -245,6 +256,7 @@ module _ (p : Program) (kind : Kind) (state : State) (formed : IsFormedState p k
       (λ f w. elim (way-arrives p kind state formed at f w) [ inl u ↦ absurd (arrives-reached state at at agreed.some.0 u.0 agreed.some.1) | inr a ↦ a ])
       (λ q about. refl) agreed
 
+  -- at a label that nothing reaches nothing is known
   pub nothing-way : (at : ℕ) (answer : Question → Bool) → IsUnreachedLabel state at → ((f : Facts) → ¬ Arrives state at at f) → ((q : Question) → IsAbout (length kind.variables) q → answer q ≡ false) → Agreed (length kind.variables) (Way state at) answer
   nothing-way at answer u none same = agreed-same (length kind.variables) (λ f. f ≡ nothing_held) (Way state at) (λ q. says q nothing_held) answer
       (λ f e. subst (λ k. Way state at k) (sym e) (unreached u))
@@ -285,5 +297,6 @@ module _ (p : Program) (kind : Kind) (state : State) (formed : IsFormedState p k
         | inl none ↦ ((λ q. false), nothing-way at (λ q. false) (unreached-here at inside before none) none (λ q about. refl))
       ]
 
+  -- at each place it is known what all ways agree in
   pub decided : (at : ℕ) → at < length state.code → Decided (length kind.variables) state at
   decided at inside = decided-below (suc at) at (omega arith) inside

@@ -20,6 +20,7 @@ use Rattle.task_check.proofs.First.{precedes-right, first-same, first-earlier}
 use Rattle.task_check.proofs.Lacks.{same-some}
 
 module _ (p : Program) (line : ℕ) (behind : Option ℕ) (roots : List ℕ) where
+  -- the first root that is not the predecessor is the first fault
   pub unbehind-found : (i r : ℕ) (earlier : Root) (name : List ℕ) → name ≡ earlier.name → slice_get roots i ≡ Some r → slice_get p.roots r ≡ Some earlier → ¬ (behind ≡ Some r)
       → ((j y : ℕ) → j < i → slice_get roots j ≡ Some y → behind ≡ Some y)
       → (a : Option Found) → a ≡ Some (record { line = line; cause = StateNeeds; position = i; name = name }) → IsFirst (UnbehindFault p line behind roots) a
@@ -32,9 +33,11 @@ module _ (p : Program) (line : ℕ) (behind : Option ℕ) (roots : List ℕ) whe
         by : (j y : ℕ) → slice_get roots j ≡ Some y → ¬ (behind ≡ Some y) → i ≤ j
         by j y at no_behind = elim (cases_lt j i) [ inl h ↦ absurd (no_behind (before j y h at)) | inr h ↦ h ]
 
+  -- where each root is the predecessor there is no fault
   pub unbehind-none : ((j x : ℕ) → j < length roots → slice_get roots j ≡ Some x → behind ≡ Some x) → IsFirst (UnbehindFault p line behind roots) None
   unbehind-none all_behind f lacks = lacks.2.5 (all_behind f.position lacks.2.0 (slice_get_within roots f.position lacks.2.0 lacks.2.2) lacks.2.2)
 
+-- one more root is the predecessor
 pub behind-more : (behind : Option ℕ) (roots : List ℕ) (i y : ℕ) → slice_get roots i ≡ Some y → behind ≡ Some y → ((j x : ℕ) → j < i → slice_get roots j ≡ Some x → behind ≡ Some x)
     → (j x : ℕ) → j < i + 1 → slice_get roots j ≡ Some x → behind ≡ Some x
 behind-more behind roots i y here present before j x h at = elim (cases_lt j i) [
@@ -43,6 +46,7 @@ behind-more behind roots i y here present before j x h at = elim (cases_lt j i) 
       subst (λ z. behind ≡ Some z) (same-some (slice_get roots i) y x here (subst (λ n. slice_get roots n ≡ Some x) e at)) present
 ]
 
+-- a root that an argument passes is one of the program
 pub root-within : (p : Program) (at : ℕ) (a : RootArgument) → at ≤ length p.roots → IsFormedRootArgument at a → IfSome (root_in a) (λ r. r < length p.roots)
 root-within p at (root_argument.Number n) h f = tt
 root-within p at (root_argument.Root r) h f = omega arith
@@ -73,5 +77,6 @@ module _ (p : Program) (root : Root) (k : Kind) (entry : State) (stands : slice_
       let same_entry : h.1 ≡ entry = same-some (slice_get k.states 0) h.1 entry (subst (λ (z : Kind). slice_get z.states 0 ≡ Some h.1) same h.3) starts in
       inr (l, e, (h.4.0, h.4.1, subst (λ (s : State). slice_get (passed_settled root_in s.settled root.arguments) f.position ≡ Some h.4.0) same_entry h.4.2, h.4.3, h.4.4, h.4.5))
 
+  -- the earlier of a root's two faults is its first
   pub root-first : (a b : Option Found) → IsFirst Misfit a → IsFirst Needy b → IsFirst (RootFault p root) (earlier_of a b)
   root-first a b first second = first-same (λ f. Misfit f ⊎ Needy f) (RootFault p root) to-root (λ f m. by-cause f m.0 f.cause refl m.1) (earlier_of a b) (first-earlier Misfit Needy a b first second)

@@ -79,11 +79,13 @@ unlacked kind xs P within stable none i x e = stable x (within i x e) (λ no_p.
 lacks-absurd : (kind : Kind) (xs : List ℕ) (P : ℕ → Type 0) (position : ℕ) (name : List ℕ) → Each xs P → Lacks kind xs P position name → ⊥
 lacks-absurd kind xs P position name each l = l.5 (each position l.0 l.2)
 
+-- what stands in a list is in it
 pub at-has : (xs : List ℕ) (j x : ℕ) → slice_get xs j ≡ Some x → has x xs ≡ true
 at-has [] j x e = cc
 at-has (y ∷ ys) zero x e = has-first x y ys (sym (same-some (Some y) y x refl e))
 at-has (y ∷ ys) (suc j) x e = has-rest x y ys (at-has ys j x e)
 
+-- what is in a list stands somewhere
 pub has-at : (xs : List ℕ) (x : ℕ) → has x xs ≡ true → (j : ℕ) × (slice_get xs j ≡ Some x)
 has-at [] x h = cc
 has-at (y ∷ ys) x h = elim (cases_eq x y) [
@@ -133,6 +135,7 @@ one-asked : (y : ℕ) (P : ℕ → Type 0) → P y → Each (y ∷ []) P
 one-asked y P h = each-option (Some y) P h
 
 module _ (p : Program) (kind : Kind) (state : State) (at : ℕ) where
+  -- what a sound instruction asks to be held is held
   pub sound-held : (instr : Instr) → IsFormedInstr p kind state at instr → IsSoundInstr p kind state at instr → Each (asks_held instr) (Held state at)
   sound-held (Spawn to callee arguments behind priority retry) f s =
       let k = some-inside p.kinds callee f.1 in
@@ -156,6 +159,7 @@ module _ (p : Program) (kind : Kind) (state : State) (at : ℕ) where
   sound-held (Rows a b) f s = nothing-asked (Held state at)
   sound-held (Done a) f s = nothing-asked (Held state at)
 
+  -- what a sound instruction asks to be settled is settled
   pub sound-settled : (instr : Instr) → IsSoundInstr p kind state at instr → Each (asks_settled instr) (Settled state at)
   sound-settled (Get to future) s = one-asked future (Settled state at) s.1
   sound-settled (Spawn a b c d e f) s = nothing-asked (Settled state at)
@@ -223,6 +227,7 @@ module _ (p : Program) (kind : Kind) (state : State) (at : ℕ) where
   all-held : (instr : Instr) → IsFormedInstr p kind state at instr → ((position : ℕ) (name : List ℕ) → ¬ Lacks kind (asks_held instr) (Held state at) position name) → Each (asks_held instr) (Held state at)
   all-held instr f none = unlacked kind (asks_held instr) (Held state at) (asks_held-within p kind state at instr f) (λ x h n. stable-held state at x n) none
 
+  -- an instruction with no cause of a fault is sound
   pub causeless-sound : Decided (length kind.variables) state at → IsFormedKind p kind → (instr : Instr) → IsFormedInstr p kind state at instr → ((c : Cause) (position : ℕ) (name : List ℕ) → ¬ HasCause p kind state at instr c position name) → IsSoundInstr p kind state at instr
   causeless-sound d fk (Spawn to callee arguments behind priority retry) f none = λ k e.
       let each : Each (asks_held (Spawn to callee arguments behind priority retry)) (Held state at) = all-held (Spawn to callee arguments behind priority retry) f (none NotHeld) in

@@ -24,10 +24,12 @@ module _ (kind : Kind) (place : ℕ) (state : State) where
   abbrev NoArgument : Found → Type 0
   NoArgument = LackingFault state.line NotHeld 0 kind state.holds (λ x. IsTrue (nat_lt x kind.arguments))
 
+  -- a later state declares wrongly only what it settles
   pub declared-later : ¬ (place ≡ 0) → (r : Option Found) → IsFirst Unheld r → IsFirst (DeclaredFault kind place state) r
   declared-later later r first = first-same Unheld (DeclaredFault kind place state)
       (λ f m. (m.0, m.1, inr m.2)) (λ f m. elim m.2 [ inl h ↦ absurd (later h.0) | inr s ↦ (m.0, m.1, s) ]) r first
 
+  -- an entry state may also hold what is no argument
   pub declared-entry : place ≡ 0 → (a b : Option Found) → IsFirst NoArgument a → IsFirst Unheld b → IsFirst (DeclaredFault kind place state) (earlier_of a b)
   declared-entry entry a b first second = first-same (λ f. NoArgument f ⊎ Unheld f) (DeclaredFault kind place state)
       (λ f m. elim m [
