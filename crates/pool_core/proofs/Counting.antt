@@ -15,7 +15,7 @@ use Rattle.pool_core.specs.Pool.{PoolState, IsSound, AreAllOut, BlocksAreCounted
 use Rattle.pool_core.specs.Superblocks.{SuperblockState, IsKept}
 
 -- the blocks of a superblock from a place on whose bits are set
-unfoldable blocks_of : ℕ → ℕ → ℕ → ℕ → List Bool → List BlockState
+unfoldable pub blocks_of : ℕ → ℕ → ℕ → ℕ → List Bool → List BlockState
 blocks_of units place class from [] = []
 blocks_of units place class from (true ∷ bits) = block_at units place class from ∷ blocks_of units place class (suc from) bits
 blocks_of units place class from (false ∷ bits) = blocks_of units place class (suc from) bits
@@ -25,7 +25,7 @@ unfoldable blocks_from : ℕ → ℕ → List SuperblockState → List BlockStat
 blocks_from units place [] = []
 blocks_from units place (superblock ∷ rest) = blocks_of units place superblock.class 0 superblock.set ++ blocks_from units (suc place) rest
 
-length-blocks_of : (units place class from : ℕ) (bits : List Bool) → length (blocks_of units place class from bits) ≡ set_count bits
+pub length-blocks_of : (units place class from : ℕ) (bits : List Bool) → length (blocks_of units place class from bits) ≡ set_count bits
 unfolding blocks_of
 length-blocks_of units place class from [] = refl
 length-blocks_of units place class from (true ∷ bits) = omega (arith, length-blocks_of units place class (suc from) bits, set_count-cons true bits)
@@ -48,7 +48,7 @@ length-blocks_from units place (superblock ∷ rest) kept =
     )
 
 -- x is somewhere in the list
-abbrev Somewhere : {X : Type 0} → List X → X → Type 0
+abbrev pub Somewhere : {X : Type 0} → List X → X → Type 0
 Somewhere xs x = (k : ℕ) × (slice_get xs k ≡ Some x)
 
 later : {X : Type 0} (y : X) (xs : List X) (x : X) → Somewhere xs x → Somewhere (y ∷ xs) x
@@ -69,10 +69,10 @@ in_either (y ∷ xs) ys zero x there = inl (0, there)
 in_either (y ∷ xs) ys (suc k) x there = ⊎_elim (λ left. inl (later y xs x left)) (λ right. inr right) (in_either xs ys k x there)
 
 -- a block of these is that of a set bit
-record IsOfBit (units place class from : ℕ) (bits : List Bool) (block : BlockState) : Type 0 where
-  bit : ℕ
-  is_set : IsSet bits bit
-  block_is : block ≡ block_at units place class (from + bit)
+pub record IsOfBit (units place class from : ℕ) (bits : List Bool) (block : BlockState) : Type 0 where
+  pub bit : ℕ
+  pub is_set : IsSet bits bit
+  pub block_is : block ≡ block_at units place class (from + bit)
 
 next_bit : (units place class from : ℕ) (first : Bool) (bits : List Bool) (block : BlockState)
     → IsOfBit units place class (suc from) bits block → IsOfBit units place class from (first ∷ bits) block
@@ -80,7 +80,7 @@ next_bit units place class from first bits block of_bit =
     let e : suc from + of_bit.bit ≡ from + suc of_bit.bit = omega arith in
     record { bit = suc of_bit.bit; is_set = of_bit.is_set; block_is = of_bit.block_is ∙ ap (block_at units place class) e }
 
-bit_of_block : (units place class from : ℕ) (bits : List Bool) (k : ℕ) (block : BlockState)
+pub bit_of_block : (units place class from : ℕ) (bits : List Bool) (k : ℕ) (block : BlockState)
     → slice_get (blocks_of units place class from bits) k ≡ Some block → IsOfBit units place class from bits block
 unfolding blocks_of
 bit_of_block units place class from [] k block there = absurd (none-some block there)
@@ -92,7 +92,7 @@ bit_of_block units place class from (true ∷ bits) (suc k) block there =
 bit_of_block units place class from (false ∷ bits) k block there =
     next_bit units place class from false bits block (bit_of_block units place class (suc from) bits k block there)
 
-block_of_bit : (units place class from : ℕ) (bits : List Bool) (bit : ℕ) → IsSet bits bit
+pub block_of_bit : (units place class from : ℕ) (bits : List Bool) (bit : ℕ) → IsSet bits bit
     → Somewhere (blocks_of units place class from bits) (block_at units place class (from + bit))
 unfolding blocks_of
 block_of_bit units place class from [] bit is_set = absurd (none-some true is_set)
@@ -168,7 +168,7 @@ block_of_place units from (first ∷ rest) (suc at) bit superblock there is_set 
     (subst (λ p. Somewhere (blocks_from units (suc from) rest) (block_at units p superblock.class bit)) place (block_of_place units (suc from) rest at bit superblock there is_set))
 
 -- units rise from one block of a list to the next, from a unit on
-abbrev Rising : ℕ → List BlockState → Type 0
+abbrev pub Rising : ℕ → List BlockState → Type 0
 Rising low [] = Unit {0}
 Rising low (block ∷ blocks) = (low ≤ block.unit) × Rising (suc block.unit) blocks
 
@@ -182,7 +182,7 @@ Rising_low low (first ∷ blocks) zero block rising there = subst (λ (b : Block
 Rising_low low (first ∷ blocks) (suc k) block rising there =
     let later = Rising_low (suc first.unit) blocks k block rising.1 there in omega (arith, later, rising.0)
 
-Rising_once : (low : ℕ) (blocks : List BlockState) (i j : ℕ) (block : BlockState) → Rising low blocks
+pub Rising_once : (low : ℕ) (blocks : List BlockState) (i j : ℕ) (block : BlockState) → Rising low blocks
     → slice_get blocks i ≡ Some block → slice_get blocks j ≡ Some block → i ≡ j
 Rising_once low [] i j block rising here there = absurd (none-some block here)
 Rising_once low (first ∷ blocks) zero zero block rising here there = refl
@@ -202,7 +202,7 @@ Rising_append low mid [] ys le rising below after = Rising_from low mid ys le af
 Rising_append low mid (x ∷ xs) ys le rising below after =
     (rising.0, Rising_append (suc x.unit) mid xs ys (below 0 x refl) rising.1 (λ k block there. below (suc k) block there) after)
 
-Rising-blocks_of : (units place class from : ℕ) (bits : List Bool) → Rising (place * units + from * block_units class) (blocks_of units place class from bits)
+pub Rising-blocks_of : (units place class from : ℕ) (bits : List Bool) → Rising (place * units + from * block_units class) (blocks_of units place class from bits)
 unfolding blocks_of
 Rising-blocks_of units place class from [] = tt
 Rising-blocks_of units place class from (true ∷ bits) = (
@@ -234,7 +234,7 @@ Rising-blocks_from units place (superblock ∷ rest) unit_count kept =
     (λ k block there. unit_below units place superblock k block unit_count (kept 0 superblock refl) there)
     (Rising-blocks_from units (suc place) rest unit_count (λ at other there. kept (suc at) other there))
 
-Contains_somewhere : {X : Type 0} (xs : List X) (x : X) → Somewhere xs x → Contains xs x
+pub Contains_somewhere : {X : Type 0} (xs : List X) (x : X) → Somewhere xs x → Contains xs x
 Contains_somewhere xs x (k, there) = (k, slice_get_within xs k x there, get_or_from_slice_get xs k x x there)
 
 all_out : (pool : PoolState) → IsSound pool → AreAllOut pool (blocks_from pool.units 0 pool.superblocks)

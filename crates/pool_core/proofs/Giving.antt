@@ -36,7 +36,7 @@ below_of : (class room place : ℕ) (superblocks : List SuperblockState) (was : 
 below_of class room place superblocks was some (inl first) = first.1.below
 below_of class room place superblocks was some (inr (none, first)) = omega (arith, some, first.1)
 
-ready_at : (pool : PoolState) (class place : ℕ) (was : SuperblockState) → IsSound pool → class ≤ 3
+pub ready_at : (pool : PoolState) (class place : ℕ) (was : SuperblockState) → IsSound pool → class ≤ 3
     → IsChosen class (capacity pool.units class) pool.superblocks place was → IsReady pool class place was
 ready_at pool class place was sound fits chosen =
     let there = there_of class (capacity pool.units class) place pool.superblocks was chosen in

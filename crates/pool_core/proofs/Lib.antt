@@ -8,4 +8,7 @@ pub mod Sound
 pub mod Taking
 pub mod Units
 pub mod OneAnswer
+pub mod EitherAnswer
+pub mod ClassCounts
+pub mod Determined
 pub mod Out

@@ -29,6 +29,13 @@ pub record IsOut (pool : PoolState) (block : BlockState) : Type 0 where
   pub superblock : SuperblockState
   pub at : IsOutAt pool block place bit superblock
 
+-- the block is out, it stands in this superblock, and it is of this class
+pub record IsOutIn (pool : PoolState) (place class : ℕ) (block : BlockState) : Type 0 where
+  pub bit : ℕ
+  pub superblock : SuperblockState
+  pub at : IsOutAt pool block place bit superblock
+  pub class_is : block.class ≡ class
+
 -- the pool with one superblock in another state
 abbrev pub with_superblock : PoolState → ℕ → SuperblockState → PoolState
 with_superblock pool place superblock = record pool { superblocks = slice_set pool.superblocks place superblock }
@@ -83,10 +90,20 @@ BlocksAreApart pool = (one other : BlockState) (unit : ℕ) → IsOut pool one �
 abbrev pub BlocksAreInside : PoolState → Type 0
 BlocksAreInside pool = (block : BlockState) → IsOut pool block → block.unit + block_units block.class ≤ length pool.superblocks * pool.units
 
--- these are the blocks that are out, each once
-pub record AreAllOut (pool : PoolState) (blocks : List BlockState) : Type 0 where
-  pub members : (block : BlockState) → Contains blocks block ↔ IsOut pool block
+-- these are the blocks that have P, each once
+pub record AreAll (P : BlockState → Type 0) (blocks : List BlockState) : Type 0 where
+  pub members : (block : BlockState) → Contains blocks block ↔ P block
   pub once : (i j : ℕ) (block : BlockState) → slice_get blocks i ≡ Some block → slice_get blocks j ≡ Some block → i ≡ j
+
+-- so many blocks have P: they can be listed, each once, and each such list has this length
+pub record SoMany (P : BlockState → Type 0) (number : ℕ) : Type 0 where
+  pub blocks : List BlockState
+  pub all : AreAll P blocks
+  pub length_is : (listed : List BlockState) → AreAll P listed → length listed ≡ number
+
+-- these are the blocks that are out, each once
+abbrev pub AreAllOut : PoolState → List BlockState → Type 0
+AreAllOut pool blocks = AreAll (IsOut pool) blocks
 
 -- the counts are together the number of blocks that are out
 abbrev pub BlocksAreCounted : PoolState → Type 0

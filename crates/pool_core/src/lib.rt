@@ -10,5 +10,8 @@ mod superblock;
 mod tests;
 
 pub use block::Block;
-pub use laws::{blocks_that_are_out, one_is_given};
+pub use laws::{
+    blocks_by_class, blocks_that_are_out, gives_or_has_no_room, one_is_given,
+    superblocks_are_their_blocks,
+};
 pub use plain_pool::PlainPool;
