@@ -2,3 +2,12 @@ mod Examples
 pub mod TotalFacts
 pub mod BelowFacts
 pub mod CountFacts
+pub mod NumberFacts
+pub mod StampFacts
+pub mod LeadFacts
+pub mod JournalFacts
+pub mod AcceptFacts
+pub mod BeginFacts
+pub mod FinishFacts
+pub mod CountedStamps
+pub mod JournalCode

@@ -73,6 +73,13 @@ cause_in (Some task) = task.cause
 abbrev pub cause_of : List TaskRow → ℕ → Cause
 cause_of tasks t = cause_in (by_number tasks t)
 
+-- how many activations have started, and how many tasks have finished
+abbrev pub starts : List ActivationRow → ℕ
+starts rows = total (λ (row : ActivationRow). elim row.start [ None ↦ 0 | Some s ↦ 1 ]) rows
+
+abbrev pub finishes : List TaskRow → ℕ
+finishes tasks = total (λ (task : TaskRow). elim task.finish [ None ↦ 0 | Some f ↦ 1 ]) tasks
+
 -- how many of these rows, numbered from n on, are the first of their task
 abbrev pub tasks_from : ℕ → List ActivationRow → ℕ
 tasks_from n [] = 0
@@ -154,6 +161,7 @@ pub record IsJournal (j : JournalState) : Type 0 where
   pub of_tasks : AreOfTasks j.rows
   pub finished : (t f : ℕ) → finish_of j.tasks t ≡ Some f → HasTask j.rows t
   pub stamped : AreStampedOnce j.rows j.tasks j.stamps
+  pub counted : j.stamps ≡ starts j.rows + finishes j.tasks
   pub ordered : AreInOrder j.rows j.tasks
   -- all numbers of a task but the last have begun
   pub begun : (n m : ℕ) (one other : ActivationRow) → n < m → by_number j.rows n ≡ Some one → by_number j.rows m ≡ Some other

@@ -1,0 +1,14 @@
+ghost use Rattle.record_core.specs.JournalLaws.{EmptyIsJournal, AcceptKeepsJournal, BeginKeepsJournal, FinishKeepsJournal, AllStampsAreWritten};
+
+/// A journal stays one over each write that is made under its condition.
+pub fn journal_keeps()
+    ensures empty { EmptyIsJournal }
+    ensures accept { AcceptKeepsJournal }
+    ensures begin { BeginKeepsJournal }
+    ensures finish { FinishKeepsJournal }
+{}
+
+/// How many stamps there are once everything has started and finished.
+pub fn journal_is_whole()
+    ensures { AllStampsAreWritten }
+{}
