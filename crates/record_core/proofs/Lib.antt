@@ -11,3 +11,5 @@ pub mod BeginFacts
 pub mod FinishFacts
 pub mod CountedStamps
 pub mod JournalCode
+pub mod EndFacts
+pub mod HeldFacts

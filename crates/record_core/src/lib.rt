@@ -6,6 +6,7 @@
 #![tactic(auto)]
 
 mod counts;
+mod end_laws;
 mod ended;
 mod journal;
 mod journal_laws;
@@ -14,6 +15,7 @@ mod sums_below;
 mod totals;
 
 pub use counts::{counts_change, counts_tell, first_dropped};
+pub use end_laws::{faithful_ends, sound_ends};
 pub use ended::Ended;
 pub use journal::PlainJournal;
 pub use journal_laws::{journal_is_whole, journal_keeps};
