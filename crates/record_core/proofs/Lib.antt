@@ -11,5 +11,6 @@ pub mod BeginFacts
 pub mod FinishFacts
 pub mod CountedStamps
 pub mod JournalCode
+pub mod TurnFacts
 pub mod EndFacts
 pub mod HeldFacts
