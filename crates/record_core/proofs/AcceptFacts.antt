@@ -4,6 +4,7 @@ use Rattle.std.specs.Prelude.{IsSome, IfSome}
 use Rattle.std.proofs.Math.ListN.{length-append}
 use Rattle.record_core.specs.Numbers.{by_number, HasTask}
 use Rattle.record_core.specs.Journal.{JournalState, task_or, next_number, unfinished, with_accepted, start_in, start_of, finish_in, finish_of, cause_in, cause_of, starts, finishes, Event, Starts, Finishes, stamp_of, AreInOrder, IsOfTask, AreOfTasks, Leads, IsJournal, HasAllBegun, IsUnderWay}
+use Rattle.record_core.specs.JournalLaws.{GrowsFrom, TellsAccepted}
 use Rattle.record_core.specs.declared.rows.ActivationRow.{ActivationRow}
 use Rattle.record_core.specs.declared.rows.TaskRow.{TaskRow}
 use Rattle.record_core.specs.declared.rows.Cause.TheVariants.{Clear, By}
@@ -150,8 +151,12 @@ module _ (j : JournalState) (task after : Option ℕ) (is : IsJournal j) (room :
     of_tasks = of_tasks;
     finished = λ t f at. still_task t (is.finished t f (sym (same_finish t) ∙ at));
     stamped = stamped-same j.rows rows j.tasks tasks j.stamps is.stamped same_stamp;
-    counted = omega (arith, is.counted, total-snoc (λ (row : ActivationRow). elim row.start [ None ↦ 0 | Some s ↦ 1 ]) j.rows drawn,
-        total-snoc (λ (task : TaskRow). elim task.finish [ None ↦ 0 | Some f ↦ 1 ]) j.tasks unfinished);
+    counted = omega (
+      arith,
+      is.counted,
+      total-snoc (λ (row : ActivationRow). elim row.start [ None ↦ 0 | Some s ↦ 1 ]) j.rows drawn,
+      total-snoc (λ (task : TaskRow). elim task.finish [ None ↦ 0 | Some f ↦ 1 ]) j.tasks unfinished,
+    );
     ordered = record { behind = behind; rise = rise; before = before };
     begun = begun;
     caused = λ t none. same_cause t ∙ is.caused t (sym (same_finish t) ∙ none);
@@ -161,3 +166,18 @@ module _ (j : JournalState) (task after : Option ℕ) (is : IsJournal j) (room :
 pub accept-keeps : (j : JournalState) (task after : Option ℕ) → IsJournal j → length j.rows < j.limit
     → IfSome task (λ t. IsUnderWay j t) → IfSome after (λ u. HasTask j.rows u) → IsJournal (with_accepted j task after)
 accept-keeps j task after is room under_way waits = keeps j task after is room (new_of j task is under_way) waits
+
+-- what stands in the journal stays, and the new activation is told
+pub accept-tells : (j : JournalState) (task after : Option ℕ) → TellsAccepted j (with_accepted j task after) task after
+accept-tells j task after = record {
+  grows = record {
+    rows = λ n row at. (row.start, number-old j.rows (record { task = task_or task (next_number j); after = after; start = None }) row n at);
+    stamps = λ e s at. same e ∙ at;
+    causes = λ t f at. reads-append cause_in j.tasks unfinished refl t;
+  };
+  row = number-new j.rows (record { task = task_or task (next_number j); after = after; start = None });
+}
+  where
+    same : (e : Event) → stamp_of (with_accepted j task after).rows (with_accepted j task after).tasks e ≡ stamp_of j.rows j.tasks e
+    same (Starts n) = reads-append start_in j.rows (record { task = task_or task (next_number j); after = after; start = None }) refl n
+    same (Finishes t) = reads-append finish_in j.tasks unfinished refl t

@@ -4,10 +4,11 @@ use Rattle.std.specs.Prelude.{IsSome, IfSome}
 use Rattle.std.proofs.lemmas.Bool.{cases_eq}
 use Rattle.record_core.specs.Numbers.{by_number, put_number, HasTask}
 use Rattle.record_core.specs.Journal.{JournalState, with_begun, started_rows, start_in, start_of, finish_of, starts, finishes, Event, Starts, Finishes, stamp_of, AreInOrder, IsOfTask, AreOfTasks, IsJournal, MayBegin}
+use Rattle.record_core.specs.JournalLaws.{GrowsFrom, TellsBegun}
 use Rattle.record_core.specs.declared.rows.ActivationRow.{ActivationRow}
 use Rattle.record_core.proofs.TotalFacts.{none_there}
 use Rattle.record_core.proofs.NumberFacts.{number-in_range, number-set, number-other, total-put, length-put}
-use Rattle.record_core.proofs.StampFacts.{stamped-more}
+use Rattle.record_core.proofs.StampFacts.{stamped-more, stays}
 use Rattle.record_core.proofs.JournalFacts.{some_value, is_some_from}
 
 module _ (j : JournalState) (n : ℕ) (is : IsJournal j) (may : MayBegin j n) where
@@ -45,12 +46,12 @@ module _ (j : JournalState) (n : ℕ) (is : IsJournal j) (may : MayBegin j n) wh
   was_row : (m : ℕ) (row : ActivationRow) → by_number rows m ≡ Some row → WasRow m row
   was_row m row at = elim (row_cases m row at) [
     | inl it ↦ record {
-        old = may.row;
-        at = ap (by_number j.rows) it.0 ∙ may.accepted;
-        task = ap (λ (r : ActivationRow). r.task) it.1;
-        after = ap (λ (r : ActivationRow). r.after) it.1;
-        start = inl (it.0, ap (λ (r : ActivationRow). r.start) it.1, may.not_begun);
-      }
+      old = may.row;
+      at = ap (by_number j.rows) it.0 ∙ may.accepted;
+      task = ap (λ (r : ActivationRow). r.task) it.1;
+      after = ap (λ (r : ActivationRow). r.after) it.1;
+      start = inl (it.0, ap (λ (r : ActivationRow). r.start) it.1, may.not_begun);
+    }
     | inr other ↦ record { old = row; at = other.1; task = refl; after = refl; start = inr (other.0, refl) }
   ]
 
@@ -109,7 +110,7 @@ module _ (j : JournalState) (n : ℕ) (is : IsJournal j) (may : MayBegin j n) wh
             let there : by_number j.rows n ≡ Some may.row = may.accepted in
             let its : may.row ≡ was.old = cc in
             let done : (f : ℕ) × (finish_of j.tasks u ≡ Some f)
-                = some_value (finish_of j.tasks u) (waited may.row.after u (ap (λ (r : ActivationRow). r.after) its ∙ sym was.after ∙ after) may.free) in
+            = some_value (finish_of j.tasks u) (waited may.row.after u (ap (λ (r : ActivationRow). r.after) its ∙ sym was.after ∙ after) may.free) in
             let same : Some stamp ≡ Some s = sym it.1 ∙ start in
             let is_stamp : stamp ≡ s = cc in
             (done.0, done.1, omega (arith, finish_few u done.0 done.1, is_stamp))
@@ -124,16 +125,16 @@ module _ (j : JournalState) (n : ℕ) (is : IsJournal j) (may : MayBegin j n) wh
       let one_task : was.old.task ≡ also.old.task = sym was.task ∙ same ∙ also.task in
       elim also.start [
         | inl it ↦ elim was.start [
-            | inl both ↦ absurd (omega (arith, b, it.0, both.0))
-            | inr earlier ↦
-                let began : (q : ℕ) × (was.old.start ≡ Some q) = some_value was.old.start (is.begun i m was.old also.old b was.at also.at one_task) in
-                let now : Some stamp ≡ Some s = sym it.1 ∙ start in
-                let is_stamp : stamp ≡ s = cc in
-                (began.0, earlier.1 ∙ began.1, omega (arith, start_few i began.0 was.old was.at began.1, is_stamp))
-          ]
+          | inl both ↦ absurd (omega (arith, b, it.0, both.0))
+          | inr earlier ↦
+              let began : (q : ℕ) × (was.old.start ≡ Some q) = some_value was.old.start (is.begun i m was.old also.old b was.at also.at one_task) in
+              let now : Some stamp ≡ Some s = sym it.1 ∙ start in
+              let is_stamp : stamp ≡ s = cc in
+              (began.0, earlier.1 ∙ began.1, omega (arith, start_few i began.0 was.old was.at began.1, is_stamp))
+        ]
         | inr later ↦
             let old : (q : ℕ) × (was.old.start ≡ Some q) × (q < s)
-                = is.ordered.rise i m s was.old also.old b was.at also.at one_task (sym later.1 ∙ start) in
+            = is.ordered.rise i m s was.old also.old b was.at also.at one_task (sym later.1 ∙ start) in
             elim was.start [
               | inl it ↦ let none : was.old.start ≡ None = it.2 in let some : was.old.start ≡ Some old.0 = old.1 in absurd cc
               | inr earlier ↦ (old.0, earlier.1 ∙ old.1, old.2)
@@ -145,7 +146,7 @@ module _ (j : JournalState) (n : ℕ) (is : IsJournal j) (may : MayBegin j n) wh
   before m f row at finish =
       let was : WasRow m row = was_row m row at in
       let old : (s : ℕ) × (was.old.start ≡ Some s) × (s < f)
-          = is.ordered.before m f was.old was.at (ap (finish_of j.tasks) (sym was.task) ∙ finish) in
+      = is.ordered.before m f was.old was.at (ap (finish_of j.tasks) (sym was.task) ∙ finish) in
       elim was.start [
         | inl it ↦ let none : was.old.start ≡ None = it.2 in let some : was.old.start ≡ Some old.0 = old.1 in absurd cc
         | inr other ↦ (old.0, other.1 ∙ old.1, old.2)
@@ -186,6 +187,31 @@ module _ (j : JournalState) (n : ℕ) (is : IsJournal j) (may : MayBegin j n) wh
   begun_keeps =
       let to : Option ActivationRow → JournalState = λ o. record j { stamps = stamp; rows = started_rows j.rows n stamp o } in
       subst (λ (k : JournalState). IsJournal k) (ap to (sym may.accepted)) keeps
+
+  still_row : (m : ℕ) (row : ActivationRow) → by_number j.rows m ≡ Some row → (start : Option ℕ) × (by_number rows m ≡ Some (record row { start = start }))
+  still_row m row at = elim (cases_eq m n) [
+    | inl it ↦
+        let here : by_number j.rows n ≡ Some row = ap (by_number j.rows) (sym it) ∙ at in
+        let old : by_number j.rows n ≡ Some may.row = may.accepted in
+        let its : may.row ≡ row = cc in
+        (Some stamp, ap (by_number rows) it ∙ at_number ∙ ap (λ (r : ActivationRow). Some (record r { start = Some stamp })) its)
+    | inr differ ↦ (row.start, at_other m differ ∙ at)
+  ]
+
+  tells : TellsBegun j (record j { stamps = stamp; rows = rows }) n
+  tells = record {
+    grows = record {
+      rows = still_row;
+      stamps = stays j.rows rows j.tasks j.tasks j.stamps (Starts n) is.stamped unstamped stamped_now others;
+      causes = λ t f at. refl;
+    };
+    start = stamped_now;
+  }
+
+  pub begun_tells : TellsBegun j (with_begun j n) n
+  begun_tells =
+      let to : Option ActivationRow → JournalState = λ o. record j { stamps = stamp; rows = started_rows j.rows n stamp o } in
+      subst (λ (k : JournalState). TellsBegun j k n) (ap to (sym may.accepted)) tells
 
 pub begin-keeps : (j : JournalState) (n : ℕ) → IsJournal j → MayBegin j n → IsJournal (with_begun j n)
 begin-keeps j n is may = begun_keeps j n is may

@@ -73,10 +73,10 @@ all_written j is started finished =
     its_finish k task at = ap finish_in at
 
     told : (k : ℕ) (row : ActivationRow) (task : TaskRow) → slice_get j.rows k ≡ Some row → slice_get j.tasks k ≡ Some task → IsTold (1 + k) row task
-    told k row task at at' =
-        ( λ first. subst (λ (o : Option ℕ). IsSome o) (its_finish k task at') (finished (suc k) (row, at, first ∙ at_suc k))
-        , λ f is_f. first_of k row at (is.finished (suc k) f (its_finish k task at' ∙ is_f))
-        )
+    told k row task at at' = (
+      λ first. subst (λ (o : Option ℕ). IsSome o) (its_finish k task at') (finished (suc k) (row, at, first ∙ at_suc k)),
+      λ f is_f. first_of k row at (is.finished (suc k) f (its_finish k task at' ∙ is_f)),
+    )
       where
         first_of : (k : ℕ) (row : ActivationRow) → slice_get j.rows k ≡ Some row → HasTask j.rows (suc k) → row.task ≡ 1 + k
         first_of k row at there =

@@ -45,9 +45,9 @@ pub no_other_value : (p : Program) (c : Columns) (plan : RunPlan) (e : EndSeen) 
 no_other_value p c plan e at shown meant sound there given =
     let gives : RootGives p c at shown = sound.roots at (Value shown) there in
     let one : root_value p c (gives.0 + given.0) at ≡ Some shown
-        = Stays-at _ _ (root_value-stays p c gives.0 (gives.0 + given.0) at (omega arith)) shown gives.1 in
+    = Stays-at _ _ (root_value-stays p c gives.0 (gives.0 + given.0) at (omega arith)) shown gives.1 in
     let other : root_value p c (gives.0 + given.0) at ≡ Some meant
-        = Stays-at _ _ (root_value-stays p c given.0 (gives.0 + given.0) at (omega arith)) meant given.1 in
+    = Stays-at _ _ (root_value-stays p c given.0 (gives.0 + given.0) at (omega arith)) meant given.1 in
     cc
 
 -- causes lead to a refusal

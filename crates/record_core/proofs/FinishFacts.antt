@@ -4,6 +4,7 @@ use Rattle.std.specs.Prelude.{IsSome}
 use Rattle.std.proofs.lemmas.Bool.{cases_eq}
 use Rattle.record_core.specs.Numbers.{by_number, put_number, HasTask}
 use Rattle.record_core.specs.Journal.{JournalState, with_finished, finish_in, finish_of, cause_in, cause_of, start_in, finishes, Event, Starts, Finishes, stamp_of, is_cut, Leads, refused, cut_by, IsJournal, IsUnderWay, MayCause}
+use Rattle.record_core.specs.JournalLaws.{GrowsFrom, TellsFinished}
 use Rattle.record_core.specs.declared.rows.ActivationRow.{ActivationRow}
 use Rattle.record_core.specs.declared.rows.TaskRow.{TaskRow}
 use Rattle.record_core.specs.declared.rows.Cause.{Cause}
@@ -11,7 +12,7 @@ use Rattle.record_core.specs.declared.rows.Cause.TheVariants.{Clear, Null, Limit
 use Rattle.record_core.specs.declared.rows.CutTag.{CutTag}
 use Rattle.record_core.specs.declared.rows.CutTag.TheVariants as cut_tag
 use Rattle.record_core.proofs.NumberFacts.{number-in_range, numbered_member, number-set, number-other, total-put, length-put}
-use Rattle.record_core.proofs.StampFacts.{stamped-more}
+use Rattle.record_core.proofs.StampFacts.{stamped-more, stays}
 use Rattle.record_core.proofs.LeadFacts.{IsKept, leads-kept}
 use Rattle.record_core.proofs.JournalFacts.{some_value}
 
@@ -113,10 +114,10 @@ module _ (j : JournalState) (t : ℕ) (cause : Cause) (is : IsJournal j) (under_
         let its : cause_of tasks k ≡ cause = ap (cause_of tasks) it ∙ ap cause_in at_task in
         let named : IsSome (finish_of j.tasks u) × (is_cut (cause_of j.tasks u) ≡ true) = named_cut j cause u may (sym its ∙ by) in
         let done : (f : ℕ) × (finish_of j.tasks u ≡ Some f) = some_value (finish_of j.tasks u) named.0 in
-        let from : (tag : CutTag) × Leads j.tasks tag u = cut_leads j u (cause_of j.tasks u) is refl named.1 in
-        ( from.0
-        , cut_by u stamp done.0 by (still_finished u done.0 done.1) (ap (finish_of tasks) it ∙ stamped_now) (finish_few u done.0 done.1)
-            (leads-kept j.tasks tasks from.0 kept u from.1)
+        let from : (tag : CutTag) × Leads j.tasks tag u = cut_leads j u (cause_of j.tasks u) is refl named.1 in (
+          from.0,
+          cut_by u stamp done.0 by (still_finished u done.0 done.1) (ap (finish_of tasks) it ∙ stamped_now) (finish_few u done.0 done.1)
+              (leads-kept j.tasks tasks from.0 kept u from.1),
         )
     | inr differ ↦
         let was : (tag : CutTag) × Leads j.tasks tag k = is.led k u (ap cause_in (sym (at_other k differ)) ∙ by) in
@@ -141,6 +142,17 @@ module _ (j : JournalState) (t : ℕ) (cause : Cause) (is : IsJournal j) (under_
     begun = is.begun;
     caused = caused;
     led = led;
+  }
+
+  pub finished_tells : TellsFinished j (with_finished j t cause) t cause
+  finished_tells = record {
+    grows = record {
+      rows = λ n row at. (row.start, at);
+      stamps = stays j.rows j.rows j.tasks tasks j.stamps (Finishes t) is.stamped under_way.unfinished stamped_now others;
+      causes = λ u f at. ap cause_in (at_other u (finished_other u f at));
+    };
+    finish = stamped_now;
+    cause_told = ap cause_in at_task;
   }
 
 pub finish-keeps : (j : JournalState) (t : ℕ) (cause : Cause) → IsJournal j → IsUnderWay j t → MayCause j cause → IsJournal (with_finished j t cause)

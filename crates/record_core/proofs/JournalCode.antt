@@ -62,7 +62,7 @@ pub begun_by : (was : JournalState) (n : ℕ) (row : ActivationRow) → by_numbe
 begun_by was n row at =
     let few : (1 ≤ n) × (n ≤ length was.rows) = number-in_range was.rows n row at in
     ap (λ rs. journal_of rs was.tasks (was.stamps + 1) was.limit)
-      (put_before was.rows n (record row { start = Some (was.stamps + 1) }) few.0 ∙ ap (started_rows was.rows n (was.stamps + 1)) (sym at))
+    (put_before was.rows n (record row { start = Some (was.stamps + 1) }) few.0 ∙ ap (started_rows was.rows n (was.stamps + 1)) (sym at))
 
 pub room-begun : (was seen now : JournalState) (n : ℕ) (rows tasks : ℕ) → was ≡ seen → HasRoom was rows tasks → MayBegin seen n → now ≡ with_begun was n → HasRoom now rows tasks
 room-begun was seen now n rows tasks same room may is =

@@ -34,16 +34,16 @@ module _ (rows rows' : List ActivationRow) (tasks tasks' : List TaskRow) (most :
   once-more : (e f : Event) (s : ℕ) → stamp_of rows' tasks' e ≡ Some s → stamp_of rows' tasks' f ≡ Some s → e ≡ f
   once-more e f s at at' = elim (stamp-cases e s at) [
     | inl it ↦ elim (stamp-cases f s at') [
-        | inl also ↦ it.0 ∙ sym also.0
-        | inr there ↦ let b : (1 ≤ s) × (s ≤ most) = old.within f s there in absurd (omega (arith, b.1, it.1))
-      ]
+      | inl also ↦ it.0 ∙ sym also.0
+      | inr there ↦ let b : (1 ≤ s) × (s ≤ most) = old.within f s there in absurd (omega (arith, b.1, it.1))
+    ]
     | inr there ↦ elim (stamp-cases f s at') [
-        | inl it ↦ let b : (1 ≤ s) × (s ≤ most) = old.within e s there in absurd (omega (arith, b.1, it.1))
-        | inr also ↦ old.once e f s there also
-      ]
+      | inl it ↦ let b : (1 ≤ s) × (s ≤ most) = old.within e s there in absurd (omega (arith, b.1, it.1))
+      | inr also ↦ old.once e f s there also
+    ]
   ]
 
-  stays : (e : Event) (s : ℕ) → stamp_of rows tasks e ≡ Some s → stamp_of rows' tasks' e ≡ Some s
+  pub stays : (e : Event) (s : ℕ) → stamp_of rows tasks e ≡ Some s → stamp_of rows' tasks' e ≡ Some s
   stays e s at = elim (others e) [
     | inl is ↦ let gone : stamp_of rows tasks e ≡ None = ap (stamp_of rows tasks) is ∙ unstamped in absurd cc
     | inr same ↦ same ∙ at

@@ -59,6 +59,6 @@ pub begun_under_way : (j accepted begun : JournalState) (n : ℕ) → n ≡ next
     → IsJournal begun → IsUnderWay begun n
 begun_under_way j accepted begun n number drawn began is =
     let all : begun ≡ with_begun (with_accepted j None None) (next_number j)
-        = began ∙ ap (λ (k : JournalState). with_begun k n) drawn ∙ ap (with_begun (with_accepted j None None)) number in
+    = began ∙ ap (λ (k : JournalState). with_begun k n) drawn ∙ ap (with_begun (with_accepted j None None)) number in
     subst (λ (m : ℕ). IsUnderWay begun m) (sym number)
-      (subst (λ (k : JournalState). IsUnderWay k (next_number j)) (sym all) (new_under_way j (subst (λ (k : JournalState). IsJournal k) all is)))
+    (subst (λ (k : JournalState). IsUnderWay k (next_number j)) (sym all) (new_under_way j (subst (λ (k : JournalState). IsJournal k) all is)))

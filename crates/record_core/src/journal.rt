@@ -25,9 +25,7 @@ impl Model for PlainJournal {
 
     ghost view = { λ j. journal_of j.rows.items j.tasks.items j.stamps j.limit };
 
-    ghost invariant = {
-        λ j. HasRoom (journal_of j.rows.items j.tasks.items j.stamps j.limit) (vec_capacity j.rows) (vec_capacity j.tasks)
-    };
+    ghost invariant = { λ j. HasRoom (journal_of j.rows.items j.tasks.items j.stamps j.limit) (vec_capacity j.rows) (vec_capacity j.tasks) };
 }
 
 impl PlainJournal {

@@ -1,4 +1,4 @@
-ghost use Rattle.record_core.specs.JournalLaws.{EmptyIsJournal, AcceptKeepsJournal, BeginKeepsJournal, FinishKeepsJournal, AllStampsAreWritten};
+ghost use Rattle.record_core.specs.JournalLaws.{EmptyIsJournal, AcceptKeepsJournal, BeginKeepsJournal, FinishKeepsJournal, AllStampsAreWritten, AcceptTells, BeginTells, FinishTells};
 
 /// A journal stays one over each write that is made under its condition.
 pub fn journal_keeps()
@@ -6,6 +6,13 @@ pub fn journal_keeps()
     ensures accept { AcceptKeepsJournal }
     ensures begin { BeginKeepsJournal }
     ensures finish { FinishKeepsJournal }
+{}
+
+/// Each write tells what was asked, and nothing that was written before changes.
+pub fn journal_grows()
+    ensures accept { AcceptTells }
+    ensures begin { BeginTells }
+    ensures finish { FinishTells }
 {}
 
 /// How many stamps there are once everything has started and finished.

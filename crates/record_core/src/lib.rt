@@ -12,13 +12,15 @@ mod journal;
 mod journal_laws;
 mod rows;
 mod sums_below;
+#[cfg(test)]
+mod tests;
 mod totals;
 
 pub use counts::{counts_change, counts_tell, first_dropped};
 pub use end_laws::{faithful_ends, sound_ends};
 pub use ended::Ended;
 pub use journal::PlainJournal;
-pub use journal_laws::{journal_is_whole, journal_keeps};
+pub use journal_laws::{journal_grows, journal_is_whole, journal_keeps};
 pub use rows::{ActivationRow, Cause, CutFrom, CutTag, RootEnd, TaskRow};
 pub use sums_below::{sums_below_change, sums_below_compare};
 pub use totals::{totals_change, totals_compare, totals_join};

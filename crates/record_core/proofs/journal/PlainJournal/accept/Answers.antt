@@ -16,17 +16,17 @@ invariant_of-self c =
     let many : c.len-2.result ≡ length inside.rows.items = c.len-2.ensures ∙ inside.rows.ok.0 in
     let fits : is_ok c.push-fits.result ≡ true = c.push-fits.ensures.succeeds (omega (arith, inside.rows.ok.0, more, room.rows_fit)) in
     let also_fits : is_ok c.push-fits-2.result ≡ true
-        = c.push-fits-2.ensures.succeeds (omega (arith, inside.tasks.ok.0, room.journal.beside, more, room.tasks_fit)) in
+    = c.push-fits-2.ensures.succeeds (omega (arith, inside.tasks.ok.0, room.journal.beside, more, room.tasks_fit)) in
     let row : ActivationRow = record { task = c.unwrap_or-task.result; after = c.args.after; start = None } in
     let rows : c.push-fits.new.self.items ≡ inside.rows.items ++ row ∷ []
-        = grown (is_ok c.push-fits.result) c.push-fits.new.self.items (inside.rows.items ++ row ∷ []) inside.rows.items c.push-fits.ensures.items fits in
+    = grown (is_ok c.push-fits.result) c.push-fits.new.self.items (inside.rows.items ++ row ∷ []) inside.rows.items c.push-fits.ensures.items fits in
     let tasks : c.push-fits-2.new.self.items ≡ inside.tasks.items ++ unfinished ∷ []
-        = grown (is_ok c.push-fits-2.result) c.push-fits-2.new.self.items (inside.tasks.items ++ unfinished ∷ []) inside.tasks.items c.push-fits-2.ensures.items also_fits in
+    = grown (is_ok c.push-fits-2.result) c.push-fits-2.new.self.items (inside.tasks.items ++ unfinished ∷ []) inside.tasks.items c.push-fits-2.ensures.items also_fits in
     room-accepted was c.args.self.now (journal_of c.push-fits.new.self.items c.push-fits-2.new.self.items inside.stamps inside.limit)
-      c.args.task c.args.after inside.rows.cap inside.tasks.cap c.push-fits.new.self.cap c.push-fits-2.new.self.cap c.self.view_is room more c.requires.task c.requires.after
-      (accepted_by was c.args.task c.args.after c.unwrap_or-task.result c.len-2.result c.push-fits.new.self.items c.push-fits-2.new.self.items
-        many c.unwrap_or-task.ensures rows tasks)
-      c.push-fits.ensures.capacity c.push-fits-2.ensures.capacity
+    c.args.task c.args.after inside.rows.cap inside.tasks.cap c.push-fits.new.self.cap c.push-fits-2.new.self.cap c.self.view_is room more c.requires.task c.requires.after
+    (accepted_by was c.args.task c.args.after c.unwrap_or-task.result c.len-2.result c.push-fits.new.self.items c.push-fits-2.new.self.items
+    many c.unwrap_or-task.ensures rows tasks)
+    c.push-fits.ensures.capacity c.push-fits-2.ensures.capacity
 
 pub returns-clause-kept : goal.returns-clause-kept
 returns-clause-kept c = (invariant_of-self c).journal

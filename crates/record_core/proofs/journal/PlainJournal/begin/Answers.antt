@@ -15,13 +15,13 @@ overflow_add-self c =
 pub index_mut-row-requires : goal.index_mut-row-requires
 index_mut-row-requires c =
     let few : (1 ≤ c.args.number) × (c.args.number ≤ length c.self.inside.rows.items)
-        = begun_number (state c.self.inside) c.args.self.now c.args.number c.self.view_is c.requires in
+    = begun_number (state c.self.inside) c.args.self.now c.args.number c.self.view_is c.requires in
     omega (arith, few.0, few.1, c.self.inside.rows.ok.0)
 
 pub invariant_of-self : goal.invariant_of-self
 invariant_of-self c =
     room-begun (state c.self.inside) c.args.self.now _ c.args.number c.self.inside.rows.cap c.self.inside.tasks.cap c.self.view_is c.self.invariant c.requires
-      (begun_from (state c.self.inside) c.args.self.now c.args.number c.index_mut-row.result.now c.self.view_is c.requires c.index_mut-row.ensures.value)
+    (begun_from (state c.self.inside) c.args.self.now c.args.number c.index_mut-row.result.now c.self.view_is c.requires c.index_mut-row.ensures.value)
 
 pub returns-clause-begun : goal.returns-clause-begun
 returns-clause-begun c =

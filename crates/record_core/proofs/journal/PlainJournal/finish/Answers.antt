@@ -15,15 +15,15 @@ overflow_add-self c =
 pub index_mut-requires : goal.index_mut-requires
 index_mut-requires c =
     let few : (1 ≤ c.args.task) × (c.args.task ≤ length c.self.inside.tasks.items)
-        = finished_number (state c.self.inside) c.args.self.now c.args.task c.self.view_is c.self.invariant.journal c.requires.under_way in
+    = finished_number (state c.self.inside) c.args.self.now c.args.task c.self.view_is c.self.invariant.journal c.requires.under_way in
     omega (arith, few.0, few.1, c.self.inside.tasks.ok.0)
 
 pub invariant_of-self : goal.invariant_of-self
 invariant_of-self c =
     let few : (1 ≤ c.args.task) × (c.args.task ≤ length c.self.inside.tasks.items)
-        = finished_number (state c.self.inside) c.args.self.now c.args.task c.self.view_is c.self.invariant.journal c.requires.under_way in
+    = finished_number (state c.self.inside) c.args.self.now c.args.task c.self.view_is c.self.invariant.journal c.requires.under_way in
     room-finished (state c.self.inside) c.args.self.now _ c.args.task c.args.cause c.self.inside.rows.cap c.self.inside.tasks.cap c.self.view_is c.self.invariant
-      c.requires.under_way c.requires.cause (finished_by (state c.self.inside) c.args.task c.args.cause few.0)
+    c.requires.under_way c.requires.cause (finished_by (state c.self.inside) c.args.task c.args.cause few.0)
 
 pub returns-clause-kept : goal.returns-clause-kept
 returns-clause-kept c = (invariant_of-self c).journal
