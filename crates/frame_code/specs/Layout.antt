@@ -1,5 +1,5 @@
 -- The words that say a body. Read together with `body_of` they tell where each variable stands.
-use Rattle.std.specs.Prelude.{◌≡◌, ℕ, suc, ◌+◌, ◌<◌, ◌≤◌, Option, Some, None, List, [], ◌∷◌, ◌++◌, length, map}
+use Rattle.std.specs.Prelude.{◌≡◌, ℕ, suc, ◌+◌, ◌-◌, Option, List, [], ◌∷◌, ◌++◌, length, map, take}
 use Rattle.task_syntax.specs.Form.{IsWellFormed}
 use Rattle.task_syntax.specs.declared.program.Sort.TheVariants.{Number, Future}
 use Rattle.task_syntax.specs.declared.program.Variable.{Variable}
@@ -7,8 +7,16 @@ use Rattle.task_syntax.specs.declared.program.Program.{Program}
 use Rattle.task_meaning.specs.Frame.{FrameOf}
 use Rattle.kt_words.specs.HeadWords.{link_code}
 use Rattle.frame_code.specs.Control.{aggregate_code, control_word}
-use Rattle.frame_code.specs.Words.{BodyOf, OfKind, OfMembers, variables_at, body_of}
+use Rattle.frame_code.specs.Words.{BodyOf, OfKind, OfMembers, number_count, variables_at, body_of}
 use Rattle.frame_code.specs.Frames.{IsFrame}
+
+-- where the word of a number variable stands: behind those of the numbers before it
+abbrev pub number_place : List Variable → ℕ → ℕ
+number_place vs x = 1 + number_count (take x vs)
+
+-- where the word of a future variable stands: behind all numbers, and behind those of the futures before it
+abbrev pub future_place : List Variable → ℕ → ℕ
+future_place vs x = 1 + number_count vs + (x - number_count (take x vs))
 
 -- what the number variables have, in order
 abbrev pub number_words : List Variable → List ℕ → List ℕ

@@ -68,9 +68,9 @@ abbrev pub Passes : {A : Type 0} → Program → Columns → FrameOf A → Frame
 Passes p c q next = StandsAt p (λ line. (stop_at c line.instr q ≡ None) × (act_of c line.instr q ≡ Steps next)) q
 
 -- the frame goes on to another, line by line, and stops at none of them
-pub data GoesTo {A : Type 0} (p : Program) (c : Columns) : FrameOf A → FrameOf A → Type 0 where
-  stays : {q : FrameOf A} → GoesTo p c q q
-  passes : {q next last : FrameOf A} → Passes p c q next → GoesTo p c next last → GoesTo p c q last
+pub data GoesTo {A : Type 0} (p : Program) (c : Columns) (q : FrameOf A) : FrameOf A → Type 0 where
+  stays : GoesTo p c q q
+  passes : {at next : FrameOf A} → GoesTo p c q at → Passes p c at next → GoesTo p c q next
 
 -- what `advance` does to a body: it goes on to the first line where it stops, and stands there; an aggregate stands as it is
 abbrev pub Advances : Program → Columns → BodyOf ℕ → Act → BodyOf ℕ → Type 0

@@ -24,31 +24,41 @@ variable_list (Some kind) = kind.variables
 abbrev pub variables_at : Program → ℕ → List Variable
 variables_at p kind = variable_list (slice_get p.kinds kind)
 
+abbrev pub one_if_number : Sort → ℕ
+one_if_number Number = 1
+one_if_number Future = 0
+
+abbrev pub one_if_future : Sort → ℕ
+one_if_future Number = 0
+one_if_future Future = 1
+
 -- how many of the variables are numbers
 abbrev pub number_count : List Variable → ℕ
 number_count [] = 0
-number_count (v ∷ vs) = elim v.sort [ Number ↦ suc (number_count vs) | Future ↦ number_count vs ]
+number_count (v ∷ vs) = one_if_number v.sort + number_count vs
+
+abbrev pub number_if : Sort → ℕ → ℕ
+number_if Number word = word
+number_if Future word = 0
 
 -- the number of each variable, where the word of the next number is at this place; a future has the number 0
 abbrev pub numbers_from : (ℕ → ℕ) → ℕ → List Variable → List ℕ
 numbers_from words place [] = []
-numbers_from words place (v ∷ vs) = elim v.sort [
-  | Number ↦ words place ∷ numbers_from words (place + 1) vs
-  | Future ↦ 0 ∷ numbers_from words place vs
-]
+numbers_from words place (v ∷ vs) = number_if v.sort (words place) ∷ numbers_from words (place + one_if_number v.sort) vs
 
 -- a future word is 0 where no task is named, else 1 more than the unit of the task's record
 abbrev pub unit_named : ℕ → Option ℕ
 unit_named zero = None
 unit_named (suc unit) = Some unit
 
+abbrev pub future_if : Sort → ℕ → Option ℕ
+future_if Number word = None
+future_if Future word = unit_named word
+
 -- the unit that each variable names, where the word of the next future is at this place; a number names none
 abbrev pub futures_from : (ℕ → ℕ) → ℕ → List Variable → List (Option ℕ)
 futures_from words place [] = []
-futures_from words place (v ∷ vs) = elim v.sort [
-  | Number ↦ None ∷ futures_from words place vs
-  | Future ↦ unit_named (words place) ∷ futures_from words (place + 1) vs
-]
+futures_from words place (v ∷ vs) = future_if v.sort (words place) ∷ futures_from words (place + one_if_future v.sort) vs
 
 -- the frame of a task with these variables, its futures named by units
 abbrev pub kind_frame : List Variable → (ℕ → ℕ) → FrameOf ℕ

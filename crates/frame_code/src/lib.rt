@@ -1,10 +1,25 @@
-//! The frames of tasks as words.
+//! The frames of tasks as words, and what a task does next.
 //!
-//! `specs/Words.antt` says where each variable stands, and `specs/Asked.antt` what a frame does next.
+//! `specs/Words.antt` says what the words of a frame say, `specs/Frames.antt` which words are a frame of a program,
+//! `specs/Stops.antt` where a task stops and what it asks for, and `specs/Moves.antt` how it goes on. `specs/Meant.antt` ties
+//! both to the meaning and to the rules of the checker.
 #![tactic(auto)]
 
 mod act;
+mod arithmetic;
 mod few;
+mod line;
+mod lookup;
+mod moves;
+mod places;
+mod request;
+mod run;
+mod size;
+mod words;
 
 pub use act::{Act, AllRequest, RespawnRequest, SpawnRequest};
 pub use few::Few;
+pub use moves::{enter, give, pass_on};
+pub use run::advance;
+pub use size::{class_of, members_class, words_of};
+pub use words::Frame;

@@ -1,0 +1,91 @@
+ghost use Rattle.std.specs.Prelude.{◌≡◌, ◌<◌, ◌≤◌, ℕ, false, Some, None, length, slice_index};
+ghost use Rattle.frame_code.specs.Control.{is_aggregate};
+ghost use Rattle.frame_code.specs.Words.{body_of};
+ghost use Rattle.frame_code.specs.Frames.{IsFrame};
+ghost use Rattle.frame_code.specs.Names.{names_of};
+ghost use Rattle.frame_code.specs.Members.{member_act};
+ghost use Rattle.frame_code.specs.Stops.{Advances};
+ghost use Rattle.frame_code.specs.Meant.{KeepsMeaning, AreHeld};
+ghost use Rattle.frame_code.specs.Ways.{KeepsWay};
+ghost use Rattle.frame_code.specs.Run.{unpacked, IsMovedTo, IsRun};
+
+use crate::act::{Act, RespawnRequest};
+use crate::line::{Step, carry_out};
+use crate::lookup::{kind_at, line_at, state_at};
+use crate::places::number_places;
+use crate::request::request;
+use crate::words::{AGGREGATE, Control, Frame};
+use task_syntax::{Checked, Columns, Priority};
+
+/// Makes a frame stand at a line.
+fn stand(words: &mut [u64], control: Control, at: u16)
+    requires head { control ≡ unpacked (slice_index words.old 0) }
+    requires some { 0 < length words.old }
+    requires near { at < 256 }
+    ensures { IsMovedTo at words.old words.new }
+{
+    words[0] = Control { at, ..control }.pack();
+}
+
+/// Runs a task to the first line where it stops.
+fn run(checked: &Checked, columns: &Columns, words: &mut [u64]) -> Act
+    requires frame { IsFrame checked.now words.old }
+    requires task { is_aggregate (slice_index words.old 0) ≡ false }
+    ensures { IsRun checked.now columns.now words.old result words.new }
+{
+    let control = Control::unpack(words[0]);
+    let kind = kind_at(checked.program(), control.kind);
+    let state = state_at(kind, control.state);
+    let places = number_places(kind.variables.as_slice());
+    let mut at = control.at;
+    'lines: loop {
+        let line = line_at(state, at);
+        match carry_out(kind, &line.instr, columns, places.as_slice(), words, at) {
+            Step::Goes(next) => at = next,
+            Step::Traps(trap) => {
+                stand(words, control, at);
+                return Act::Trap(trap);
+            }
+            Step::Asks => {
+                stand(words, control, at);
+                return request(kind, &line.instr, places.as_slice(), words);
+            }
+        }
+    }
+}
+
+/// What an aggregate asks for: another activation behind its next member, or, where all were waited for, to be done with 0.
+fn next_activation(members: u16, next: u16) -> Act
+    ensures waits { next < members → (member : ℕ) → member_act (Some member) next ≡ result }
+    ensures done { members ≤ next → member_act None next ≡ result }
+{
+    if next < members {
+        Act::Again(RespawnRequest {
+            target: 0,
+            behind: Some(next),
+            priority: Priority::Regular,
+        })
+    } else {
+        Act::Done(0)
+    }
+}
+
+/// Runs a task from where its frame stands to the first line where it cannot go on by itself, and tells what it asks for
+/// there. The frame then stands at that line. An aggregate's frame stays as it is.
+pub fn advance(checked: &Checked, columns: &Columns, frame: &mut Frame) -> Act
+    requires { IsFrame checked.now frame.old.items }
+    ensures frame { IsFrame checked.now frame.new.items }
+    ensures acts { Advances checked.now columns.now (body_of checked.now frame.old.items) result (body_of checked.now frame.new.items) }
+    ensures meaning { KeepsMeaning checked.now columns.now (body_of checked.now frame.old.items) result (body_of checked.now frame.new.items) }
+    ensures held { AreHeld checked.now result (body_of checked.now frame.new.items) }
+    ensures names { names_of (body_of checked.now frame.new.items) ≡ names_of (body_of checked.now frame.old.items) }
+    ensures way { KeepsWay checked.now (body_of checked.now frame.old.items) (body_of checked.now frame.new.items) }
+{
+    let words = frame.as_mut_slice();
+    let control = Control::unpack(words[0]);
+    if control.kind == AGGREGATE {
+        next_activation(control.state, control.at)
+    } else {
+        run(checked, columns, words)
+    }
+}
