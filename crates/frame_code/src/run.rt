@@ -47,8 +47,9 @@ fn run(checked: &Checked, columns: &Columns, words: &mut [u64]) -> Act
                 return Act::Trap(trap);
             }
             Step::Asks => {
+                let asked = request(kind, &line.instr, places.as_slice(), words);
                 stand(words, control, at);
-                return request(kind, &line.instr, places.as_slice(), words);
+                return asked;
             }
         }
     }
