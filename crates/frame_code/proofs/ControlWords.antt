@@ -34,10 +34,10 @@ word-of_parts word fits = omega arith
 
 -- the control word of a task's frame says a line of its kind
 pub frame-line : (p : Program) (words : List ℕ) → IsFrame p words → is_aggregate (slice_index words 0) ≡ false → IsKindControl p (slice_index words 0)
-frame-line p words frame task = subst (λ b. cond b (IsAggregateFrame (slice_index words 0) (drop 1 words)) (IsKindControl p (slice_index words 0))) task frame.says
+frame-line p words frame task = subst (λ b. cond b (IsAggregateFrame (slice_index words)) (IsKindControl p (slice_index words 0))) task frame.says
 
-pub frame-members : (p : Program) (words : List ℕ) → IsFrame p words → is_aggregate (slice_index words 0) ≡ true → IsAggregateFrame (slice_index words 0) (drop 1 words)
-frame-members p words frame group = subst (λ b. cond b (IsAggregateFrame (slice_index words 0) (drop 1 words)) (IsKindControl p (slice_index words 0))) group frame.says
+pub frame-members : (p : Program) (words : List ℕ) → IsFrame p words → is_aggregate (slice_index words 0) ≡ true → IsAggregateFrame (slice_index words)
+frame-members p words frame group = subst (λ b. cond b (IsAggregateFrame (slice_index words)) (IsKindControl p (slice_index words 0))) group frame.says
 
 pub task-size : (p : Program) (words : List ℕ) → IsFrame p words → is_aggregate (slice_index words 0) ≡ false
     → length words ≡ 1 + variables_of p (control_kind (slice_index words 0))
@@ -69,7 +69,7 @@ module _ (p : Program) (old new : List ℕ) (state at : ℕ) (frame : IsFrame p 
         ∙ ap (λ b. cond b (1 + control_state (slice_index new 0)) (1 + variables_of p (control_kind (slice_index new 0)))) (sym moved-task)));
     few = omega (arith, as_long, frame.few);
     control = omega (arith, head, word-fits (control_kind (slice_index old 0)) state at (kind-fits (slice_index old 0)) state_fits at_fits);
-    says = subst (λ b. cond b (IsAggregateFrame (slice_index new 0) (drop 1 new)) (IsKindControl p (slice_index new 0))) (sym moved-task) (record {
+    says = subst (λ b. cond b (IsAggregateFrame (slice_index new)) (IsKindControl p (slice_index new 0))) (sym moved-task) (record {
       kind = subst (λ k. k < length p.kinds) (sym moved-kind) (frame-line p old frame task).kind;
       line = omega (arith, line, moved-at, ap (λ k. length (code_at p k (control_state (slice_index new 0)))) moved-kind, ap (λ s. length (code_at p (control_kind (slice_index old 0)) s)) moved-state);
     });

@@ -4,3 +4,10 @@ pub mod LineSteps
 pub mod Formed
 pub mod ControlWords
 pub mod RunLines
+pub mod Eaches
+pub mod ActMeanings
+pub mod HeldActs
+pub mod FrameWays
+pub mod MembersInTurn
+pub mod Aggregates
+pub mod AdvanceClauses

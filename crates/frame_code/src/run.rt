@@ -1,4 +1,6 @@
 ghost use Rattle.std.specs.Prelude.{◌≡◌, ◌<◌, ◌≤◌, ℕ, false, Some, None, length, slice_index};
+ghost use Rattle.task_syntax.specs.Form.{IsWellFormed};
+ghost use Rattle.task_syntax.specs.Valid.{IsValid};
 ghost use Rattle.frame_code.specs.Control.{is_aggregate};
 ghost use Rattle.frame_code.specs.Words.{body_of};
 ghost use Rattle.frame_code.specs.Frames.{IsFrame};
@@ -31,7 +33,9 @@ fn stand(words: &mut [u64], control: Control, at: u16)
 fn run(checked: &Checked, columns: &Columns, words: &mut [u64]) -> Act
     requires frame { IsFrame checked.now words.old }
     requires task { is_aggregate (slice_index words.old 0) ≡ false }
-    ensures { IsRun checked.now columns.now words.old result words.new }
+    ensures run { IsRun checked.now columns.now words.old result words.new }
+    ensures formed { IsWellFormed checked.now }
+    ensures valid { IsValid checked.now }
 {
     let control = Control::unpack(words[0]);
     let kind = kind_at(checked.program(), control.kind);

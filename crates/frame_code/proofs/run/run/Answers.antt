@@ -74,14 +74,14 @@ pub request-asked-requires-clause-fits : goal.request-asked-requires-clause-fits
 request-asked-requires-clause-fits c = fits-here c.args.checked.now (slice_index c.args.words.now 0) c.kind_at-kind.result.now c.state_at-state.result.now c.program.ensures.formed c.lines.invariant.of
     c.lines.at c.line_at-line.result.now c.line_at-line.ensures
 
-pub returns-in-Traps : goal.returns-in-Traps
-returns-in-Traps c = run-here c.args.checked.now (slice_index c.args.words.now 0) c.kind_at-kind.result.now c.state_at-state.result.now c.program.ensures.formed c.lines.invariant.of c.args.columns.now
+pub returns-in-Traps-clause-run : goal.returns-in-Traps-clause-run
+returns-in-Traps-clause-run c = run-here c.args.checked.now (slice_index c.args.words.now 0) c.kind_at-kind.result.now c.state_at-state.result.now c.program.ensures.formed c.lines.invariant.of c.args.columns.now
     c.args.words.now c.lines.words c.stand.new.words c.lines.at c.line_at-line.result.now (Trap c.in-Traps.trap) c.requires.frame refl c.requires.task
     c.lines.auto.words c.lines.invariant.head (subst (λ ws. IsMovedTo c.lines.at ws c.stand.new.words) c.in-Traps.ensures.step.1 c.stand.ensures)
     c.line_at-line.ensures c.lines.invariant.goes c.in-Traps.ensures.step.0
 
-pub returns-in-Asks : goal.returns-in-Asks
-returns-in-Asks c = run-here c.args.checked.now (slice_index c.args.words.now 0) c.kind_at-kind.result.now c.state_at-state.result.now c.program.ensures.formed c.lines.invariant.of c.args.columns.now
+pub returns-in-Asks-clause-run : goal.returns-in-Asks-clause-run
+returns-in-Asks-clause-run c = run-here c.args.checked.now (slice_index c.args.words.now 0) c.kind_at-kind.result.now c.state_at-state.result.now c.program.ensures.formed c.lines.invariant.of c.args.columns.now
     c.args.words.now c.lines.words c.stand-in-Asks.new.words c.lines.at c.line_at-line.result.now c.request-asked.result c.requires.frame refl c.requires.task
     c.lines.auto.words c.lines.invariant.head (subst (λ ws. IsMovedTo c.lines.at ws c.stand-in-Asks.new.words) c.in-Asks.ensures.step.1 c.stand-in-Asks.ensures)
     c.line_at-line.ensures c.lines.invariant.goes
