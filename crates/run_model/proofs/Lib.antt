@@ -1,0 +1,5 @@
+pub mod StandsStill
+pub mod Placed
+pub mod WorkedLooks
+pub mod RuleRuns
+pub mod ExampleRuns

@@ -1,0 +1,11 @@
+pub mod State
+pub mod Placing
+pub mod Step
+pub mod End
+pub mod Laws
+pub mod ProgramParts
+pub mod RulePrograms
+pub mod WorkedRuns
+pub mod RuleRuns
+pub mod ExamplePrograms
+pub mod ExampleRuns
