@@ -2,6 +2,7 @@ pub mod State
 pub mod Placing
 pub mod Step
 pub mod End
+pub mod Move
 pub mod Laws
 pub mod ProgramParts
 pub mod RulePrograms

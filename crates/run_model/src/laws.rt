@@ -1,4 +1,5 @@
 ghost use Rattle.run_model.specs.Laws.{OneEnd, PlacesAsPoolsGive};
+ghost use Rattle.run_model.specs.Move.{RootsMove, StepsMove};
 ghost use Rattle.run_model.specs.RuleRuns.{RuleRuns};
 ghost use Rattle.run_model.specs.ExampleRuns.{ExampleRuns};
 
@@ -20,4 +21,10 @@ pub fn rules_by_example()
 /// Worked runs: values, traps and cuts as their programs and plans have them.
 pub fn worked_runs()
     ensures { ExampleRuns }
+{}
+
+/// A step changes nothing, for a reason, or makes one of seven moves; asking for a root makes one of three.
+pub fn steps_are_moves()
+    ensures step { StepsMove }
+    ensures root { RootsMove }
 {}

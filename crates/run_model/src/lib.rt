@@ -2,10 +2,11 @@
 //! that it ends as this run ends.
 //!
 //! `specs/State.antt` has the state, `specs/Placing.antt` says which blocks are in use and where the next one is placed,
-//! `specs/Step.antt` what one step does, and `specs/End.antt` when the run is over and what it answers.
+//! `specs/Step.antt` what one step does, `specs/Move.antt` which moves that may be, and `specs/End.antt` when the run is
+//! over and what it answers.
 //! The functions do nothing: the contract of each is a law of these definitions.
 #![tactic(auto)]
 
 mod laws;
 
-pub use laws::{one_end, places_as_pools_give, rules_by_example, worked_runs};
+pub use laws::{one_end, places_as_pools_give, rules_by_example, steps_are_moves, worked_runs};
