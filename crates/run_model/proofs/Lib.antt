@@ -5,3 +5,15 @@ pub mod RuleRuns
 pub mod ExampleRuns
 pub mod Traversal
 pub mod Reached
+pub mod NumbersInvariant
+pub mod RankInvariant
+pub mod OutcomesInvariant
+pub mod CallsInvariant
+pub mod JournalInvariant
+pub mod CausesInvariant
+pub mod NullsInvariant
+pub mod BlocksInvariant
+pub mod FramesInvariant
+pub mod ValuesInvariant
+pub mod RootsInvariant
+pub mod CountsInvariant

@@ -1,0 +1,25 @@
+-- What a run keeps of calls: the row of a number is as its call says, and a call names earlier tasks.
+use Rattle.std.specs.Prelude.{◌≡◌, ℕ, ◌<◌, ◌⊎◌, Option, Some, List, slice_get}
+use Rattle.task_meaning.specs.Meant.{future_at}
+use Rattle.task_meaning.specs.Worths.{Accepted, OfCall, OfAll, Respawn}
+use Rattle.record_core.specs.Numbers.{by_number, HasTask}
+use Rattle.record_core.specs.declared.rows.ActivationRow.{ActivationRow}
+use Rattle.run_model.specs.State.{Run}
+
+-- a new task is behind what its call waits for, an aggregate behind its first member
+abbrev pub IsRowOf : ℕ → Accepted → ActivationRow → Type 0
+IsRowOf n (OfCall call waits) row = (row.task ≡ n) × (row.after ≡ waits)
+IsRowOf n (OfAll members) row = (row.task ≡ n) × (row.after ≡ slice_get members 0)
+IsRowOf n (Respawn t waits) row = (row.task ≡ t) × (row.after ≡ waits) × (t < n)
+
+abbrev pub CallNames : Accepted → ℕ → Type 0
+CallNames (OfCall call waits) u = ((x : ℕ) × (future_at call.futures x ≡ Some u)) ⊎ (waits ≡ Some u)
+CallNames (OfAll members) u = (at : ℕ) × (slice_get members at ≡ Some u)
+CallNames (Respawn t waits) u = waits ≡ Some u
+
+pub record Calls (rows : List ActivationRow) (calls : List Accepted) : Type 0 where
+  pub row_of : (n : ℕ) (call : Accepted) (row : ActivationRow) → by_number calls n ≡ Some call → by_number rows n ≡ Some row → IsRowOf n call row
+  pub earlier : (n u : ℕ) (call : Accepted) → by_number calls n ≡ Some call → CallNames call u → (u < n) × HasTask rows u
+
+abbrev pub CallsStand : Run → Type 0
+CallsStand r = Calls r.journal.rows r.calls
