@@ -5,6 +5,7 @@ pub mod RuleRuns
 pub mod ExampleRuns
 pub mod Traversal
 pub mod Reached
+pub mod ByNumber
 pub mod NumbersInvariant
 pub mod RankInvariant
 pub mod OutcomesInvariant
@@ -17,3 +18,4 @@ pub mod FramesInvariant
 pub mod ValuesInvariant
 pub mod RootsInvariant
 pub mod CountsInvariant
+pub mod NamesFacts
