@@ -19,3 +19,4 @@ pub mod ValuesInvariant
 pub mod RootsInvariant
 pub mod CountsInvariant
 pub mod NamesFacts
+pub mod LiveFacts
