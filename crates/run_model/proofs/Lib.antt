@@ -20,3 +20,4 @@ pub mod RootsInvariant
 pub mod CountsInvariant
 pub mod NamesFacts
 pub mod LiveFacts
+pub mod QueueFacts
