@@ -111,3 +111,11 @@ found_past {A = A} xs n past = by (found xs n) refl
 pub has_some : {A : Type 0} (o : Option A) → IsSome o → (x : A) × (o ≡ Some x)
 has_some None some = absurd (false≢true some)
 has_some (Some x) some = (x, refl)
+
+pub found_old : {A : Type 0} (xs : List (Option A)) (o : Option A) (n : ℕ) (x : A) → found xs n ≡ Some x → found (xs ++ o ∷ []) n ≡ Some x
+found_old xs o n x e = let within = found_within xs n x e in found_other xs o n (λ same. absurd (omega (arith, within.1, same))) ∙ e
+
+-- an empty list has nothing at any number
+pub none_of_empty : {A : Type 0} (n : ℕ) → by_number {A = A} [] n ≡ None
+none_of_empty zero = refl
+none_of_empty (suc n) = refl

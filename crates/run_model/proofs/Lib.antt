@@ -21,3 +21,5 @@ pub mod CountsInvariant
 pub mod NamesFacts
 pub mod LiveFacts
 pub mod QueueFacts
+pub mod NumbersParts
+pub mod NumbersKept

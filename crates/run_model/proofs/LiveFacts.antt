@@ -17,7 +17,7 @@ use Rattle.run_model.proofs.NumbersInvariant.{IsLiveAt, Live}
 pub read_snoc : {A B : Type 0} (f : Option A → B) (xs : List A) (x : A) → f (Some x) ≡ f None → (n : ℕ) → f (by_number (xs ++ x ∷ []) n) ≡ f (by_number xs n)
 read_snoc f xs x same n =
     ⊎_elim
-    (λ e. ap (λ m. f (by_number (xs ++ x ∷ []) m)) e ∙ ap f (snoc_new xs x) ∙ same ∙ sym (ap f (past xs) ) ∙ sym (ap (λ m. f (by_number xs m)) e))
+    (λ e. ap (λ m. f (by_number (xs ++ x ∷ []) m)) e ∙ ap f (snoc_new xs x) ∙ same ∙ sym (ap f (past xs)) ∙ sym (ap (λ m. f (by_number xs m)) e))
     (λ differ. ap f (snoc_other xs x n differ))
     (cases_eq n (suc (length xs)))
   where
@@ -125,27 +125,34 @@ module _ (rows : List ActivationRow) (tasks : List TaskRow) (outcomes : List (Op
       where
         past : (t : ℕ) → t ≡ suc (length rows) → finish_of tasks t ≡ None
         past t e = ap finish_in (ap (by_number tasks) e ∙ Rattle.std.proofs.lemmas.Option.slice_get_past tasks (length rows) (omega arith))
+
         body_other : (t : ℕ) → t ≢ suc (length rows) → found (bodies ++ Some body ∷ []) t ≡ found bodies t
         body_other t differ = found_other bodies (Some body) t (λ e. differ (e ∙ ap suc as_bodies))
+
         of_task : (t : ℕ) → IsSome (found (bodies ++ Some body ∷ []) t) → HasTask (rows ++ row ∷ []) t
         of_task t some =
             ⊎_elim (λ same. (row, ap (by_number (rows ++ row ∷ [])) same ∙ snoc_new rows row, is_new ∙ sym same))
             (λ differ. task_snoc rows row t (live.of_task t (sym (ap is_some (body_other t differ)) ∙ some))) (cases_eq t (suc (length rows)))
+
         has_body : (t : ℕ) → HasTask (rows ++ row ∷ []) t → IsSome (found (bodies ++ Some body ∷ []) t) ↔ (finish_of (tasks ++ unfinished ∷ []) t ≡ None)
         has_body t task =
             ⊎_elim (λ same. (λ some. finish_snoc tasks t ∙ past t same, λ none. ap is_some (found_new bodies (Some body) t (same ∙ sym (ap suc as_bodies)))))
             (λ differ. let old = live.has_body t (task_old rows row t differ task) in (λ some. finish_snoc tasks t ∙ old.0 (sym (ap is_some (body_other t differ)) ∙ some), λ none. ap is_some (body_other t differ) ∙ old.1 (sym (finish_snoc tasks t) ∙ none)))
             (cases_eq t (suc (length rows)))
+
         has_outcome : (t : ℕ) → IsSome (found (outcomes ++ None ∷ []) t) ↔ IsSome (finish_of (tasks ++ unfinished ∷ []) t)
         has_outcome t = let old = live.has_outcome t in (λ some. ap is_some (finish_snoc tasks t) ∙ old.0 (sym (ap is_some (outcome_snoc outcomes t)) ∙ some), λ some. ap is_some (outcome_snoc outcomes t) ∙ old.1 (sym (ap is_some (finish_snoc tasks t)) ∙ some))
+
         current : (t : ℕ) → HasTask (rows ++ row ∷ []) t → finish_of (tasks ++ unfinished ∷ []) t ≡ None → (n : ℕ) × (other : ActivationRow) × IsLiveAt (rows ++ row ∷ []) running t n other
         current t task none =
             ⊎_elim (λ same. (suc (length rows), row, live_new_row t (is_new ∙ sym same) running))
             (λ differ. let (n, other, now) = live.current t (task_old rows row t differ task) (sym (finish_snoc tasks t) ∙ none) in (n, other, live_old running t n other now))
             (cases_eq t (suc (length rows)))
+
         is_open : (t n : ℕ) (other : ActivationRow) → IsLiveAt (rows ++ row ∷ []) running t n other → finish_of (tasks ++ unfinished ∷ []) t ≡ None
         is_open t n other now =
             finish_snoc tasks t ∙ ⊎_elim (λ old. live.is_open t n other old) (λ new. past t (sym now.of_task ∙ same_task other row new.1 ∙ is_new)) (live_cases running t n other now)
+
         last : (t n m : ℕ) (one other : ActivationRow) → IsLiveAt (rows ++ row ∷ []) running t n one → by_number (rows ++ row ∷ []) m ≡ Some other → other.task ≡ t → m ≤ n
         last t n m one other now there e =
             ⊎_elim
@@ -153,6 +160,7 @@ module _ (rows : List ActivationRow) (tasks : List TaskRow) (outcomes : List (Op
             (λ new_m. let within = task_of_row n one old.there in absurd (omega (arith, within.1, old.of_task, e, same_task other row new_m.1, is_new))) (snoc_cases rows row m other there))
             (λ new. let within = number_within (rows ++ row ∷ []) m other there in omega (arith, within.1, new.0, Rattle.run_model.proofs.ByNumber.length_snoc rows row))
             (live_cases running t n one now)
+
         runs : (n : ℕ) → running ≡ Some n → (other : ActivationRow) × (by_number (rows ++ row ∷ []) n ≡ Some other) × IsSome other.start
         runs n e = let (other, there, some) = live.runs n e in (other, snoc_old rows row n other there, some)
 
@@ -163,12 +171,16 @@ module _ (rows : List ActivationRow) (tasks : List TaskRow) (outcomes : List (Op
       where
         is_task : HasTask rows t × (finish_of tasks t ≡ None)
         is_task = body_task t old has_old
+
         within : (1 ≤ t) × (t ≤ length rows)
         within = task_within rows t is_task.0
+
         body_here : found (put_number (bodies ++ None ∷ []) t (Some to)) t ≡ Some to
         body_here = found_put (bodies ++ None ∷ []) t (Some to) within.0 (omega (arith, Rattle.run_model.proofs.ByNumber.length_snoc bodies None, within.1, as_bodies))
+
         body_other : (u : ℕ) → u ≢ t → found (put_number (bodies ++ None ∷ []) t (Some to)) u ≡ found bodies u
         body_other u differ = found_put_other (bodies ++ None ∷ []) t u (Some to) differ ∙ read_snoc Rattle.record_core.specs.Numbers.flat bodies None refl u
+
         task_here : (u : ℕ) → HasTask (rows ++ row ∷ []) u → HasTask rows u
         task_here u task = task_old rows row u (not_new u task) task
           where
@@ -176,24 +188,30 @@ module _ (rows : List ActivationRow) (tasks : List TaskRow) (outcomes : List (Op
             not_new u (other, there, e) same =
                 let is_row : other ≡ row = same_row (rows ++ row ∷ []) u other row there (ap (by_number (rows ++ row ∷ [])) same ∙ snoc_new rows row) in
                 absurd (omega (arith, within.1, same_task other row is_row, e, is_t))
+
         of_task : (u : ℕ) → IsSome (found (put_number (bodies ++ None ∷ []) t (Some to)) u) → HasTask (rows ++ row ∷ []) u
         of_task u some =
             ⊎_elim (λ same. rw same (task_snoc rows row t is_task.0))
             (λ differ. task_snoc rows row u (live.of_task u (sym (ap is_some (body_other u differ)) ∙ some))) (cases_eq u t)
+
         has_body : (u : ℕ) → HasTask (rows ++ row ∷ []) u → IsSome (found (put_number (bodies ++ None ∷ []) t (Some to)) u) ↔ (finish_of (tasks ++ unfinished ∷ []) u ≡ None)
         has_body u task =
             ⊎_elim (λ same. (λ some. finish_snoc tasks u ∙ ap (finish_of tasks) same ∙ is_task.1, λ none. ap (λ v. is_some (found (put_number (bodies ++ None ∷ []) t (Some to)) v)) same ∙ ap is_some body_here))
             (λ differ. let iff = live.has_body u (task_here u task) in (λ some. finish_snoc tasks u ∙ iff.0 (sym (ap is_some (body_other u differ)) ∙ some), λ none. ap is_some (body_other u differ) ∙ iff.1 (sym (finish_snoc tasks u) ∙ none)))
             (cases_eq u t)
+
         has_outcome : (u : ℕ) → IsSome (found (outcomes ++ None ∷ []) u) ↔ IsSome (finish_of (tasks ++ unfinished ∷ []) u)
         has_outcome u = let iff = live.has_outcome u in (λ some. ap is_some (finish_snoc tasks u) ∙ iff.0 (sym (ap is_some (outcome_snoc outcomes u)) ∙ some), λ some. ap is_some (outcome_snoc outcomes u) ∙ iff.1 (sym (ap is_some (finish_snoc tasks u)) ∙ some))
+
         current : (u : ℕ) → HasTask (rows ++ row ∷ []) u → finish_of (tasks ++ unfinished ∷ []) u ≡ None → (n : ℕ) × (other : ActivationRow) × IsLiveAt (rows ++ row ∷ []) None u n other
         current u task none =
             ⊎_elim (λ same. (suc (length rows), row, live_new_row u (is_t ∙ sym same) None))
             (λ differ. let (n, other, now) = live.current u (task_here u task) (sym (finish_snoc tasks u) ∙ none) in (n, other, live_old None u n other (record { there = now.there; of_task = now.of_task; live = inl (not_running t m now_row runs_m there_m task_m u n other differ now) })))
             (cases_eq u t)
+
         is_open : (u n : ℕ) (other : ActivationRow) → IsLiveAt (rows ++ row ∷ []) None u n other → finish_of (tasks ++ unfinished ∷ []) u ≡ None
         is_open u n other now = finish_snoc tasks u ∙ ⊎_elim (λ old. live.is_open u n other (was_live u n other old)) (λ new. ap (finish_of tasks) (sym now.of_task ∙ same_task other row new.1 ∙ is_t) ∙ is_task.1) (live_cases None u n other now)
+
         last : (u n k : ℕ) (one other : ActivationRow) → IsLiveAt (rows ++ row ∷ []) None u n one → by_number (rows ++ row ∷ []) k ≡ Some other → other.task ≡ u → k ≤ n
         last u n k one other now there e =
             ⊎_elim
@@ -211,25 +229,33 @@ module _ (rows : List ActivationRow) (tasks : List TaskRow) (outcomes : List (Op
     where
       within : (1 ≤ t) × (t ≤ length rows)
       within = task_within rows t (body_task t old has_old).0
+
       finish_here : (u : ℕ) → u ≡ t → finish_of (put_number tasks t (record { finish = Some stamp; cause = why })) u ≡ Some stamp
       finish_here u same =
           let (row, there) = member_at tasks t within.0 (omega (arith, within.1, as_tasks)) in
           ap (finish_of (put_number tasks t (record { finish = Some stamp; cause = why }))) same ∙ ap finish_in (put_same tasks t row (record { finish = Some stamp; cause = why }) there)
+
       finish_other : (u : ℕ) → u ≢ t → finish_of (put_number tasks t (record { finish = Some stamp; cause = why })) u ≡ finish_of tasks u
       finish_other u differ = ap finish_in (put_other tasks t u (record { finish = Some stamp; cause = why }) differ)
+
       outcome_here : (u : ℕ) → u ≡ t → found (put_number outcomes t (Some outcome)) u ≡ Some outcome
       outcome_here u same = ap (found (put_number outcomes t (Some outcome))) same ∙ found_put outcomes t (Some outcome) within.0 (omega (arith, within.1, as_outcomes))
+
       body_here : (u : ℕ) → u ≡ t → found (put_number bodies t None) u ≡ None
       body_here u same = ap (found (put_number bodies t None)) same ∙ found_put bodies t None within.0 (omega (arith, within.1, as_bodies))
+
       body_other : (u : ℕ) → u ≢ t → found (put_number bodies t None) u ≡ found bodies u
       body_other u differ = found_put_other bodies t u None differ
+
       of_task : (u : ℕ) → IsSome (found (put_number bodies t None) u) → HasTask rows u
       of_task u some = ⊎_elim (λ same. absurd (false≢true (sym (ap is_some (body_here u same)) ∙ some))) (λ differ. live.of_task u (sym (ap is_some (body_other u differ)) ∙ some)) (cases_eq u t)
+
       has_body : (u : ℕ) → HasTask rows u → IsSome (found (put_number bodies t None) u) ↔ (finish_of (put_number tasks t (record { finish = Some stamp; cause = why })) u ≡ None)
       has_body u task =
           ⊎_elim (λ same. (λ some. absurd (false≢true (sym (ap is_some (body_here u same)) ∙ some)), λ none. absurd (none-some stamp (sym none ∙ finish_here u same))))
           (λ differ. let iff = live.has_body u task in (λ some. finish_other u differ ∙ iff.0 (sym (ap is_some (body_other u differ)) ∙ some), λ none. ap is_some (body_other u differ) ∙ iff.1 (sym (finish_other u differ) ∙ none)))
           (cases_eq u t)
+
       has_outcome : (u : ℕ) → IsSome (found (put_number outcomes t (Some outcome)) u) ↔ IsSome (finish_of (put_number tasks t (record { finish = Some stamp; cause = why })) u)
       has_outcome u =
           ⊎_elim (λ same. (λ some. ap is_some (finish_here u same), λ some. ap is_some (outcome_here u same)))
@@ -238,12 +264,14 @@ module _ (rows : List ActivationRow) (tasks : List TaskRow) (outcomes : List (Op
             λ some. ap is_some (found_put_other outcomes t u (Some outcome) differ) ∙ iff.1 (sym (ap is_some (finish_other u differ)) ∙ some),
           ))
           (cases_eq u t)
+
       current : (u : ℕ) → HasTask rows u → finish_of (put_number tasks t (record { finish = Some stamp; cause = why })) u ≡ None → (n : ℕ) × (other : ActivationRow) × IsLiveAt rows None u n other
       current u task none =
           ⊎_elim (λ same. absurd (none-some stamp (sym none ∙ finish_here u same)))
           (λ differ. let (n, other, now) = live.current u task (sym (finish_other u differ) ∙ none) in
-            (n, other, record { there = now.there; of_task = now.of_task; live = inl (not_running t m now_row runs_m there_m task_m u n other differ now) }))
+          (n, other, record { there = now.there; of_task = now.of_task; live = inl (not_running t m now_row runs_m there_m task_m u n other differ now) }))
           (cases_eq u t)
+
       is_open : (u n : ℕ) (other : ActivationRow) → IsLiveAt rows None u n other → finish_of (put_number tasks t (record { finish = Some stamp; cause = why })) u ≡ None
       is_open u n other now =
           ⊎_elim (λ same. absurd (no_wait t m now_row runs_m there_m task_m n other now.there (waits now) (now.of_task ∙ same)))
@@ -271,9 +299,14 @@ module _ (rows rows' : List ActivationRow) (n stamp : ℕ) (row : ActivationRow)
   was_row k now e =
       ⊎_elim
       (λ same.
-        let is_now : now ≡ record row { start = Some stamp } = same_Some now (record row { start = Some stamp }) (sym e ∙ ap (by_number rows') same ∙ started.here) in
-        record { was = row; stood = ap (by_number rows) same ∙ there; task = ap (λ (r : ActivationRow). r.task) is_now; after = ap (λ (r : ActivationRow). r.after) is_now;
-          start = (λ _. ap (λ (r : ActivationRow). r.start) is_now, λ differ. absurd (differ same)) })
+      let is_now : now ≡ record row { start = Some stamp } = same_Some now (record row { start = Some stamp }) (sym e ∙ ap (by_number rows') same ∙ started.here) in
+      record {
+        was = row;
+        stood = ap (by_number rows) same ∙ there;
+        task = ap (λ (r : ActivationRow). r.task) is_now;
+        after = ap (λ (r : ActivationRow). r.after) is_now;
+        start = (λ _. ap (λ (r : ActivationRow). r.start) is_now, λ differ. absurd (differ same));
+      })
       (λ differ. record { was = now; stood = sym (started.others k differ) ∙ e; task = refl; after = refl; start = (λ same. absurd (differ same), λ _. refl) })
       (cases_eq k n)
 
@@ -298,6 +331,7 @@ module _ (rows rows' : List ActivationRow) (n stamp : ℕ) (row : ActivationRow)
       where
         at_n : (was : ActivationRow) → k ≡ n → by_number rows k ≡ Some was → was.start ≡ None
         at_n was same e = ap (λ (r : ActivationRow). r.start) (same_row rows n was row (sym (ap (by_number rows) same) ∙ e) there) ∙ waiting
+
         not_here : k ≢ n → (now.start ≡ None) ⊎ (Some n ≡ Some k) → now.start ≡ None
         not_here differ live = ⊎_elim (λ start. start) (λ e. absurd (differ (sym (same_Some n k e)))) live
 
@@ -316,6 +350,7 @@ module _ (rows rows' : List ActivationRow) (n stamp : ℕ) (row : ActivationRow)
         start_of k was now differ live there e =
             let is_was : now ≡ was = same_Some now was (sym e ∙ started.others k differ ∙ there) in
             ap (λ (r : ActivationRow). r.start) is_was ∙ ⊎_elim (λ start. start) (λ runs. absurd (none-some k runs)) live
+
         current : (t : ℕ) → HasTask rows' t → finish_of tasks t ≡ None → (k : ℕ) × (now : ActivationRow) × IsLiveAt rows' (Some n) t k now
         current t task none =
             let (k, was, old) = live.current t (task_was t task) none in

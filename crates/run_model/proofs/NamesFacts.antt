@@ -54,6 +54,7 @@ future_at_padded {A = A} n futures x u e = there (n - length futures) futures x 
     none zero x e = none-some u e
     none (suc m) zero e = none-some u e
     none (suc m) (suc x) e = none m x e
+
     there : (m : ℕ) (futures : List (Option A)) (x : ℕ) → future_at (futures ++ replicate m None) x ≡ Some u → future_at futures x ≡ Some u
     there m [] x e = absurd (none m x e)
     there m (f ∷ fs) zero e = e

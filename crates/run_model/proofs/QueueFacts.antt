@@ -37,6 +37,7 @@ times_next q left n k e = by q.high q.regular q.low e
   where
     parts : (x : ℕ) (rest : Queues) → ◌≡◌ {A = Option (ℕ × Queues)} (Some (x, rest)) (Some (n, left)) → times k (x ∷ []) + times_ready k rest ≡ times k (n ∷ []) + times_ready k left
     parts x rest h = let (same, same_left) = some_pair_parts x n rest left h in ap (λ y. times k (y ∷ []) + times_ready k rest) same ∙ ap (λ y. times k (n ∷ []) + times_ready k y) same_left
+
     by : (high regular low : List ℕ) → first_queued high regular low ≡ Some (n, left) → times k high + times k regular + times k low ≡ times k (n ∷ []) + times_ready k left
     by (x ∷ high) regular low h = let p = parts x (record { high = high; regular = regular; low = low }) h in omega (arith, p)
     by [] (x ∷ regular) low h = let p = parts x (record { high = []; regular = regular; low = low }) h in omega (arith, p)
@@ -99,22 +100,25 @@ module _ (rows : List ActivationRow) (tasks : List TaskRow) (waiters : List (Lis
     where
       next : ℕ
       next = suc (length rows)
+
       nowhere : total (times (suc (length rows))) waiters + times_ready (suc (length rows)) ready ≡ 0
       nowhere = let e = now.each (suc (length rows)) in let none : not_started (by_number rows (suc (length rows))) ≡ 0 = ap not_started (slice_get_past rows (length rows) (omega arith)) in omega (arith, e, none)
+
       each : (k : ℕ) → times k (suc (length rows) ∷ []) + total (times k) (waiters ++ [] ∷ []) + times_ready k ready ≡ not_started (by_number (rows ++ row ∷ []) k)
       each k =
           let more : total (times k) (waiters ++ [] ∷ []) ≡ total (times k) waiters + times k [] = total-snoc (times k) waiters [] in
           ⊎_elim
           (λ same.
-            let here : not_started (by_number (rows ++ row ∷ []) k) ≡ 1 = ap (λ j. not_started (by_number (rows ++ row ∷ []) j)) same ∙ ap not_started (snoc_new rows row) ∙ waits_still row waiting in
-            let once : times k (suc (length rows) ∷ []) ≡ 1 = ap (λ j. times j (suc (length rows) ∷ [])) same ∙ times_self (suc (length rows)) in
-            let none : total (times k) waiters + times_ready k ready ≡ 0 = ap (λ j. total (times j) waiters + times_ready j ready) same ∙ nowhere in
-            omega (arith, more, here, once, none))
+          let here : not_started (by_number (rows ++ row ∷ []) k) ≡ 1 = ap (λ j. not_started (by_number (rows ++ row ∷ []) j)) same ∙ ap not_started (snoc_new rows row) ∙ waits_still row waiting in
+          let once : times k (suc (length rows) ∷ []) ≡ 1 = ap (λ j. times j (suc (length rows) ∷ [])) same ∙ times_self (suc (length rows)) in
+          let none : total (times k) waiters + times_ready k ready ≡ 0 = ap (λ j. total (times j) waiters + times_ready j ready) same ∙ nowhere in
+          omega (arith, more, here, once, none))
           (λ differ.
-            let other : not_started (by_number (rows ++ row ∷ []) k) ≡ not_started (by_number rows k) = ap not_started (snoc_other rows row k differ) in
-            let never : times k (suc (length rows) ∷ []) ≡ 0 = times_other (suc (length rows)) k differ in
-            omega (arith, more, other, never, now.each k))
+          let other : not_started (by_number (rows ++ row ∷ []) k) ≡ not_started (by_number rows k) = ap not_started (snoc_other rows row k differ) in
+          let never : times k (suc (length rows) ∷ []) ≡ 0 = times_other (suc (length rows)) k differ in
+          omega (arith, more, other, never, now.each k))
           (cases_eq k (suc (length rows)))
+
       behind : (k u : ℕ) (other : ActivationRow) → by_number (rows ++ row ∷ []) k ≡ Some other → 1 ≤ times k (waiters_of (waiters ++ [] ∷ []) u) → (other.after ≡ Some u) × (finish_of (tasks ++ unfinished ∷ []) u ≡ None)
       behind k u other there some =
           let same_waiters : times k (waiters_of (waiters ++ [] ∷ []) u) ≡ times k (waiters_of waiters u) = ap (times k) (waiters_snoc waiters u) in
@@ -122,6 +126,7 @@ module _ (rows : List ActivationRow) (tasks : List TaskRow) (waiters : List (Lis
           (λ old. let was = now.behind k u other old (omega (arith, some, same_waiters)) in (was.0, finish_snoc tasks u ∙ was.1))
           (λ new. let none : total (times k) waiters + times_ready k ready ≡ 0 = ap (λ j. total (times j) waiters + times_ready j ready) new.0 ∙ nowhere in absurd (omega (arith, some, same_waiters, waiters_within k waiters u, none)))
           (snoc_cases rows row k other there)
+
       free : (k u : ℕ) (other : ActivationRow) → by_number (rows ++ row ∷ []) k ≡ Some other → 1 ≤ times_ready k ready → other.after ≡ Some u → IsSome (finish_of (tasks ++ unfinished ∷ []) u)
       free k u other there some after =
           ⊎_elim
@@ -158,12 +163,12 @@ module _ (rows : List ActivationRow) (tasks : List TaskRow) (waiters : List (Lis
       behind k v other there' has =
           ⊎_elim
           (λ at_u.
-            let here : times k (waiters_of (put_number waiters u (n ∷ waiters_of waiters u)) v) ≡ times k (n ∷ waiters_of waiters u) = ap (times k) (ap (waiters_of (put_number waiters u (n ∷ waiters_of waiters u))) at_u ∙ waiters_put waiters u (n ∷ waiters_of waiters u) some within) in
-            ⊎_elim
-            (λ is_n. (ap (λ (r : ActivationRow). r.after) (same_Some other row (sym there' ∙ ap (by_number rows) is_n ∙ there)) ∙ after ∙ sym (ap Some at_u), ap (finish_of tasks) at_u ∙ open_))
-            (λ not_n. let never = times_other n k not_n in
-              let was = now.behind k u other there' (omega (arith, here, has, never)) in (was.0 ∙ sym (ap Some at_u), ap (finish_of tasks) at_u ∙ was.1))
-            (cases_eq k n))
+          let here : times k (waiters_of (put_number waiters u (n ∷ waiters_of waiters u)) v) ≡ times k (n ∷ waiters_of waiters u) = ap (times k) (ap (waiters_of (put_number waiters u (n ∷ waiters_of waiters u))) at_u ∙ waiters_put waiters u (n ∷ waiters_of waiters u) some within) in
+          ⊎_elim
+          (λ is_n. (ap (λ (r : ActivationRow). r.after) (same_Some other row (sym there' ∙ ap (by_number rows) is_n ∙ there)) ∙ after ∙ sym (ap Some at_u), ap (finish_of tasks) at_u ∙ open_))
+          (λ not_n. let never = times_other n k not_n in
+          let was = now.behind k u other there' (omega (arith, here, has, never)) in (was.0 ∙ sym (ap Some at_u), ap (finish_of tasks) at_u ∙ was.1))
+          (cases_eq k n))
           (λ not_u. let same = ap (times k) (waiters_put_other waiters u v (n ∷ waiters_of waiters u) not_u) in now.behind k v other there' (omega (arith, has, same)))
           (cases_eq v u)
 
@@ -176,23 +181,26 @@ module _ (rows : List ActivationRow) (tasks : List TaskRow) (waiters : List (Lis
       each k =
           let moved = times_all_queued priorities (waiters_of waiters t) ready k in
           let left = total_put k waiters t [] some within in omega (arith, moved, left, now.each k)
+
       behind : (k u : ℕ) (other : ActivationRow) → by_number rows k ≡ Some other → 1 ≤ times k (waiters_of (put_number waiters t []) u) → (other.after ≡ Some u) × (finish_of tasks' u ≡ None)
       behind k u other there has =
           ⊎_elim
           (λ at_t. let none : times k (waiters_of (put_number waiters t []) u) ≡ 0 = ap (times k) (ap (waiters_of (put_number waiters t [])) at_t ∙ waiters_put waiters t [] some within) in absurd (omega (arith, has, none)))
           (λ not_t. let same = ap (times k) (waiters_put_other waiters t u [] not_t) in
-            let was = now.behind k u other there (omega (arith, has, same)) in (was.0, others u not_t ∙ was.1))
+          let was = now.behind k u other there (omega (arith, has, same)) in (was.0, others u not_t ∙ was.1))
           (cases_eq u t)
+
       finished : (u : ℕ) → IsSome (finish_of tasks u) → IsSome (finish_of tasks' u)
       finished u was = ⊎_elim (λ at_t. ap is_some (ap (finish_of tasks') at_t ∙ here)) (λ not_t. ap is_some (others u not_t) ∙ was) (cases_eq u t)
+
       free : (k u : ℕ) (other : ActivationRow) → by_number rows k ≡ Some other → 1 ≤ times_ready k (all_queued priorities (waiters_of waiters t) ready) → other.after ≡ Some u → IsSome (finish_of tasks' u)
       free k u other there has after =
           let moved = times_all_queued priorities (waiters_of waiters t) ready k in
           ⊎_elim
           (λ queued. finished u (now.free k u other there queued after))
           (λ not_queued.
-            let was = now.behind k t other there (omega (arith, moved, has, not_queued)) in
-            ap is_some (ap (finish_of tasks') (same_Some u t (sym after ∙ was.0)) ∙ here))
+          let was = now.behind k t other there (omega (arith, moved, has, not_queued)) in
+          ap is_some (ap (finish_of tasks') (same_Some u t (sym after ∙ was.0)) ∙ here))
           (some_or_none (times_ready k ready))
         where
           some_or_none : (x : ℕ) → (1 ≤ x) ⊎ (x ≡ 0)
@@ -209,10 +217,10 @@ module _ (rows : List ActivationRow) (tasks : List TaskRow) (waiters : List (Lis
           let moved = times_next ready left n k next in
           ⊎_elim
           (λ same.
-            let once : times k (n ∷ []) ≡ 1 = ap (λ j. times j (n ∷ [])) same ∙ times_self n in
-            let begun : not_started (by_number rows' k) ≡ 0 = ap (λ j. not_started (by_number rows' j)) same ∙ ap not_started started.here in
-            let most : not_started (by_number rows k) ≤ 1 = at_most (by_number rows k) in
-            omega (arith, moved, once, begun, most, now.each k))
+          let once : times k (n ∷ []) ≡ 1 = ap (λ j. times j (n ∷ [])) same ∙ times_self n in
+          let begun : not_started (by_number rows' k) ≡ 0 = ap (λ j. not_started (by_number rows' j)) same ∙ ap not_started started.here in
+          let most : not_started (by_number rows k) ≤ 1 = at_most (by_number rows k) in
+          omega (arith, moved, once, begun, most, now.each k))
           (λ differ. let never = times_other n k differ in let other : not_started (by_number rows' k) ≡ not_started (by_number rows k) = ap not_started (started.others k differ) in omega (arith, moved, never, other, now.each k))
           (cases_eq k n)
         where
@@ -223,8 +231,10 @@ module _ (rows : List ActivationRow) (tasks : List TaskRow) (waiters : List (Lis
               by : (s : Option ℕ) → elim s [ None ↦ 1 | Some x ↦ 0 ] ≤ 1
               by None = omega arith
               by (Some x) = omega arith
+
       behind : (k u : ℕ) (now_row : ActivationRow) → by_number rows' k ≡ Some now_row → 1 ≤ times k (waiters_of waiters u) → (now_row.after ≡ Some u) × (finish_of tasks u ≡ None)
       behind k u now_row e some = let w = was_row rows rows' n stamp row there started k now_row e in let was = now.behind k u w.was w.stood some in (w.after ∙ was.0, was.1)
+
       free : (k u : ℕ) (now_row : ActivationRow) → by_number rows' k ≡ Some now_row → 1 ≤ times_ready k left → now_row.after ≡ Some u → IsSome (finish_of tasks u)
       free k u now_row e some after =
           let w = was_row rows rows' n stamp row there started k now_row e in
