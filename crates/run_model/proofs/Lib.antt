@@ -23,3 +23,5 @@ pub mod LiveFacts
 pub mod QueueFacts
 pub mod NumbersParts
 pub mod NumbersKept
+pub mod RunsFacts
+pub mod CallsKept

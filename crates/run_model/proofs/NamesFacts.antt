@@ -27,6 +27,7 @@ use Rattle.run_model.specs.State.{Body, RootWord, Named, Refused, Skipped, Run}
 use Rattle.run_model.specs.Step.{Request, task_list, own_task, own_tasks, root_request}
 use Rattle.run_model.specs.Move.{Notes, Goes, Asks, Renews}
 use Rattle.run_model.proofs.NumbersInvariant.{BodyNames}
+use Rattle.run_model.proofs.CallsInvariant.{CallNames}
 
 -- another future at a position
 pub future_at_set : {A : Type 0} (futures : List (Option A)) (to x : ℕ) (o : Option A) (u : A) → future_at (slice_set futures to o) x ≡ Some u → (o ≡ Some u) ⊎ (future_at futures x ≡ Some u)
@@ -213,3 +214,13 @@ pub root_named : (p : Program) (r : Run) (root : RootLine) (u : ℕ) → Request
 root_named p r root u (inl (x, f)) =
     let (at, e) = root_future_named (own_tasks r) root.arguments x u (entry_named p (root_call (own_tasks r) root) x u f) in (at, own_named r.roots at u e)
 root_named p r root u (inr f) = let (at, e) = root_waits_named (own_tasks r) root.behind u f in (at, own_named r.roots at u e)
+
+-- the same of what its call names
+pub asks_call_named : (p : Program) (c : Columns) (q : FrameOf ℕ) (request : Request) (to u : ℕ) (retry : Bool) → Asks p c q request to retry → CallNames request.call u → FrameNames q u
+asks_call_named p c q _ _ u _ (Asks.calls line to call waits there e) (inl (x, f)) = passed_named c line.instr q x u (ap (λ a. future_at (act_futures a) x) e ∙ f)
+asks_call_named p c q _ _ u _ (Asks.calls line to call waits there e) (inr f) = waited_named q waits u f
+asks_call_named p c q _ _ u _ (Asks.gathers line to members there e) (at, f) = member_named q.futures members at u f
+
+pub root_call_named : (p : Program) (r : Run) (root : RootLine) (u : ℕ) → CallNames (root_request p r root).call u → (at : ℕ) × (slice_get r.roots at ≡ Some (Named u))
+root_call_named p r root u (inl (x, f)) = let (at, e) = root_future_named (own_tasks r) root.arguments x u f in (at, own_named r.roots at u e)
+root_call_named p r root u (inr f) = let (at, e) = root_waits_named (own_tasks r) root.behind u f in (at, own_named r.roots at u e)
