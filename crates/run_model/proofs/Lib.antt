@@ -25,3 +25,4 @@ pub mod NumbersParts
 pub mod NumbersKept
 pub mod RunsFacts
 pub mod CallsKept
+pub mod OutcomesKept
