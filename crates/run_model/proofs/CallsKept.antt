@@ -35,6 +35,7 @@ calls_drawn rows calls row call beside is_row names now = record { row_of = row_
         (λ old. ⊎_elim (λ old_row. now.row_of n other there old old_row) (λ new_row. let within = number_within calls n other old in absurd (omega (arith, within.1, beside, new_row.0))) (snoc_cases rows row n there f))
         (λ new. ⊎_elim (λ old_row. let within = number_within rows n there old_row in absurd (omega (arith, within.1, beside, new.0))) (λ new_row. rw (new_row.0, new.1, new_row.1) is_row) (snoc_cases rows row n there f))
         (snoc_cases calls call n other e)
+
     earlier : (n u : ℕ) (other : Accepted) → by_number (calls ++ call ∷ []) n ≡ Some other → CallNames other u → (u < n) × HasTask (rows ++ row ∷ []) u
     earlier n u other e named =
         ⊎_elim
@@ -77,8 +78,10 @@ module _ (p : Program) (units : ℕ) where
     where
       request : Request
       request = root_request p r root
+
       row : ActivationRow
       row = record { task = next_number r.journal; after = (root_request p r root).after; start = None }
+
       names : (u : ℕ) → CallNames (root_request p r root).call u → HasTask r.journal.rows u
       names u named = let (at, e) = root_call_named p r root u named in held.names.in_roots at u e
   calls_root r _ root next held now (RootMove.refused tag notes free how) = record { row_of = now.row_of; earlier = now.earlier }
@@ -95,12 +98,12 @@ module _ (p : Program) (c : Columns) (units : ℕ) where
   calls_move r _ held now (Move.spawned t n to q request retry block runs asks placed some) =
       arrives_calls (with_body (accepts units r request block) t (OfKind (set_future q to (Some (next_number r.journal))))) (next_number r.journal) request.after
       (let drawn = calls_drawn r.journal.rows r.calls (record { task = next_number r.journal; after = request.after; start = None }) request.call held.beside.of_calls
-        (asked_row p c q request to (next_number r.journal) retry asks) (λ u named. held.names.in_bodies t u (OfKind q) runs.has (asks_call_named p c q request to u retry asks named)) now in
+      (asked_row p c q request to (next_number r.journal) retry asks) (λ u named. held.names.in_bodies t u (OfKind q) runs.has (asks_call_named p c q request to u retry asks named)) now in
       record { row_of = drawn.row_of; earlier = drawn.earlier })
   calls_move r _ held now (Move.respawned t n body to after priority notes runs renews some) =
       arrives_calls (with_body (record (draws (with_notes r notes) (Some t) after priority (Respawn t after) None None) { running = None }) t to) (next_number r.journal) after
       (let drawn = calls_drawn r.journal.rows r.calls (record { task = t; after = after; start = None }) (Respawn t after) held.beside.of_calls
-        (refl, refl, (let within = running_within r [] held t n body runs in omega (arith, within.1))) (λ u named. held.names.in_bodies t u body runs.has (renews_named p c units r n u body to after priority notes renews (inr named))) now in
+      (refl, refl, (let within = running_within r [] held t n body runs in omega (arith, within.1))) (λ u named. held.names.in_bodies t u body runs.has (renews_named p c units r n u body to after priority notes renews (inr named))) now in
       record { row_of = drawn.row_of; earlier = drawn.earlier })
   calls_move r _ held now (Move.gave t n body v runs answers) = record { row_of = now.row_of; earlier = now.earlier }
   calls_move r _ held now (Move.refused t n body tag notes runs refuses) = record { row_of = now.row_of; earlier = now.earlier }

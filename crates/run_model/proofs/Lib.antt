@@ -26,3 +26,5 @@ pub mod NumbersKept
 pub mod RunsFacts
 pub mod CallsKept
 pub mod OutcomesKept
+pub mod CodeFacts
+pub mod NullsKept

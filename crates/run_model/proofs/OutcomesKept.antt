@@ -83,14 +83,17 @@ outcomes_ends tasks outcomes t stamp outcome why some within within' agree now =
   where
     is_outcome : (u : ℕ) (o : Outcome) → u ≡ t → found (put_number outcomes t (Some outcome)) u ≡ Some o → outcome ≡ o
     is_outcome u o same e = same_Some outcome o (sym (found_put outcomes t (Some outcome) some within') ∙ sym (ap (found (put_number outcomes t (Some outcome))) same) ∙ e)
+
     gave : (u : ℕ) (v : Value) → found (put_number outcomes t (Some outcome)) u ≡ Some (Gave v) → cause_of (put_number tasks t (record { finish = Some stamp; cause = why })) u ≡ Clear
     gave u v e =
         ⊎_elim (λ same. cause_here tasks t stamp why some within u same ∙ agree.gave v (is_outcome u (Gave v) same e))
         (λ differ. cause_other tasks t stamp why some within u differ ∙ now.gave u v (sym (found_put_other outcomes t u (Some outcome) differ) ∙ e)) (cases_eq u t)
+
     cut : (u : ℕ) (tag : CutTag) → found (put_number outcomes t (Some outcome)) u ≡ Some (WasCut tag) → is_cut (cause_of (put_number tasks t (record { finish = Some stamp; cause = why })) u) ≡ true
     cut u tag e =
         ⊎_elim (λ same. ap is_cut (cause_here tasks t stamp why some within u same) ∙ agree.cut tag (is_outcome u (WasCut tag) same e))
         (λ differ. ap is_cut (cause_other tasks t stamp why some within u differ) ∙ now.cut u tag (sym (found_put_other outcomes t u (Some outcome) differ) ∙ e)) (cases_eq u t)
+
     open_ : (u : ℕ) → finish_of (put_number tasks t (record { finish = Some stamp; cause = why })) u ≡ None → cause_of (put_number tasks t (record { finish = Some stamp; cause = why })) u ≡ Clear
     open_ u e =
         ⊎_elim (λ same. absurd (none-some stamp (sym e ∙ finish_here tasks t stamp why some within u same)))
