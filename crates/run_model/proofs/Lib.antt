@@ -28,3 +28,4 @@ pub mod CallsKept
 pub mod OutcomesKept
 pub mod CodeFacts
 pub mod NullsKept
+pub mod RankKept

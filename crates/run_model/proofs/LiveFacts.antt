@@ -46,6 +46,11 @@ same_row rows n one other e f = same_Some one other (sym e ∙ f)
 same_task : (one other : ActivationRow) → one ≡ other → one.task ≡ other.task
 same_task one other e = ap (λ (row : ActivationRow). row.task) e
 
+-- a live number among one more row
+pub live_snoc_cases : (rows : List ActivationRow) (row : ActivationRow) (running : Option ℕ) (t n : ℕ) (other : ActivationRow) → IsLiveAt (rows ++ row ∷ []) running t n other
+    → IsLiveAt rows running t n other ⊎ ((n ≡ suc (length rows)) × (other ≡ row))
+live_snoc_cases rows row running t n other now = ⊎_elim (λ old. inl (record { there = old; of_task = now.of_task; live = now.live })) (λ new. inr new) (snoc_cases rows row n other now.there)
+
 module _ (rows : List ActivationRow) (tasks : List TaskRow) (outcomes : List (Option Outcome)) (bodies : List (Option Body)) (running : Option ℕ) (live : Live rows tasks outcomes bodies running) where
   -- a task that has a body is a task, and unfinished
   pub body_task : (t : ℕ) (body : Body) → found bodies t ≡ Some body → HasTask rows t × (finish_of tasks t ≡ None)
@@ -61,7 +66,7 @@ module _ (rows : List ActivationRow) (tasks : List TaskRow) (outcomes : List (Op
   waits : {u n : ℕ} {other : ActivationRow} → IsLiveAt rows None u n other → other.start ≡ None
   waits {n = n} now = ⊎_elim (λ start. start) (λ runs. absurd (none-some n runs)) now.live
 
-  was_live : (u n : ℕ) (other : ActivationRow) → IsLiveAt rows None u n other → IsLiveAt rows running u n other
+  pub was_live : (u n : ℕ) (other : ActivationRow) → IsLiveAt rows None u n other → IsLiveAt rows running u n other
   was_live u n other now = record { there = now.there; of_task = now.of_task; live = inl (waits now) }
 
   -- while activation m of task t runs
@@ -324,7 +329,7 @@ module _ (rows rows' : List ActivationRow) (n stamp : ℕ) (row : ActivationRow)
   task_was t (now, e, task) = let w = was_row t now e in (w.was, w.stood, sym w.task ∙ task)
 
   module _ (tasks : List TaskRow) (outcomes : List (Option Outcome)) (bodies : List (Option Body)) (waiting : row.start ≡ None) (live : Live rows tasks outcomes bodies None) where
-    live_then : (t k : ℕ) (now : ActivationRow) → IsLiveAt rows' (Some n) t k now → (was : ActivationRow) × IsLiveAt rows None t k was
+    pub live_then : (t k : ℕ) (now : ActivationRow) → IsLiveAt rows' (Some n) t k now → (was : ActivationRow) × IsLiveAt rows None t k was
     live_then t k now is_live =
         let w = was_row k now is_live.there in
         (w.was, record { there = w.stood; of_task = sym w.task ∙ is_live.of_task; live = inl (⊎_elim (λ same. at_n w.was same w.stood) (λ differ. sym (w.start.1 differ) ∙ not_here differ is_live.live) (cases_eq k n)) })
