@@ -29,7 +29,7 @@ use Rattle.frame_code.proofs.Eaches.{each-nil, each-cons, each-tail, each-append
 abbrev IsHeldAct : State → ℕ → Act → Type 0
 IsHeldAct state at asked = Each (futures_in asked) (Held state at) × IsSettledIn state at asked
 
-item-within : {A : Type 0} (xs : List A) (at : ℕ) → at < length xs → (x : A) × (slice_get xs at ≡ Some x)
+pub item-within : {A : Type 0} (xs : List A) (at : ℕ) → at < length xs → (x : A) × (slice_get xs at ≡ Some x)
 item-within xs at h = elim (slice_get_cases xs at).1 [ inl s ↦ (s.0, s.2) | inr s ↦ absurd (omega (arith, s.0)) ]
 
 trap-held : (state : State) (at : ℕ) (v : Value) (asked : Act) → trapped v ≡ Some asked → IsHeldAct state at asked

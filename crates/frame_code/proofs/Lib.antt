@@ -11,3 +11,6 @@ pub mod FrameWays
 pub mod MembersInTurn
 pub mod Aggregates
 pub mod AdvanceClauses
+pub mod MovedFrames
+pub mod PassedFrames
+pub mod EnteredFrames

@@ -35,6 +35,12 @@ stands-in p read head control kind state same says k s = record {
   is_state = ap (λ (c : Control). slice_get kind.states c.state) (sym says) ∙ s;
 }
 
+-- the frame was moved to a line of the state that its control word says
+pub moved-there : (head : ℕ) (control : Control) (at : ℕ) (read words new : List ℕ) → control ≡ unpacked head → read ≡ words
+    → IsMovedTo control.state at read new → IsMovedTo (control_state head) at words new
+moved-there head control at read words new says same moved =
+    subst (λ s. IsMovedTo s at words new) (ap (λ (c : Control). c.state) says) (subst (λ ws. IsMovedTo control.state at ws new) same moved)
+
 -- words that differ in the control word alone have the same variables
 pub frame-changed : (vs : List Variable) (old new : List ℕ) → ((k : ℕ) → k ≢ 0 → slice_index new k ≡ slice_index old k)
     → kind_frame vs (slice_index new) ≡ record (kind_frame vs (slice_index old)) {
@@ -97,7 +103,7 @@ module _ (p : Program) (head : ℕ) (kind : Kind) (state : State) (formed : IsWe
 
   -- the task stops: its frame is moved to the line, and it asks for this there
   pub run-here : (c : Columns) (old words new : List ℕ) (at : ℕ) (line : Line) (asked : Act) → IsFrame p old → slice_index old 0 ≡ head → is_aggregate head ≡ false
-      → length words ≡ length old → slice_index words 0 ≡ head → IsMovedTo at words new → slice_get state.code at ≡ Some line
+      → length words ≡ length old → slice_index words 0 ≡ head → IsMovedTo (control_state head) at words new → slice_get state.code at ≡ Some line
       → GoesTo p c (frame_at p (slice_index old)) (standing kind words at) → stop_at c line.instr (standing kind words at) ≡ Some asked → IsRun p c old asked new
   run-here c old words new at line asked frame was task long same moved e goes stop =
       let within : at < length state.code = slice_get_within state.code at line e in
@@ -105,7 +111,8 @@ module _ (p : Program) (head : ℕ) (kind : Kind) (state : State) (formed : IsWe
       let is_task : is_aggregate (slice_index old 0) ≡ false = ap is_aggregate was ∙ task in
       let some : 0 < length words = omega (arith, long, task-size p old frame is_task) in
       let first : slice_index new 0 ≡ control_word (control_kind (slice_index old 0)) (control_state (slice_index old 0)) at = ap (λ (l : List ℕ). slice_index l 0) moved
-          ∙ (get_or-set_same words 0 _ 0 some ∙ ap (λ h. control_word (control_kind h) (control_state h) at) as_old) in
+          ∙ (get_or-set_same words 0 _ 0 some ∙ (ap (λ h. control_word (control_kind h) (control_state head) at) as_old
+              ∙ ap (λ h. control_word (control_kind (slice_index old 0)) (control_state h) at) (sym was))) in
       let other : (k : ℕ) → k ≢ 0 → slice_index new k ≡ slice_index words k = λ k h. ap (λ (l : List ℕ). slice_index l k) moved ∙ get_or-set_other words 0 k _ 0 h in
       let as_long : length new ≡ length old = ap length moved ∙ (length-set words 0 _ ∙ long) in
       let line_there : at < length (code_at p (control_kind (slice_index old 0)) (control_state (slice_index old 0)))

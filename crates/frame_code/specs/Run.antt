@@ -13,9 +13,9 @@ use Rattle.frame_code.specs.declared.words.Control.{Control}
 abbrev pub unpacked : ℕ → Control
 unpacked word = record { kind = control_kind word; state = control_state word; at = control_at word }
 
--- the frame of the first words stands at this line in the second ones, and nothing else changed
-abbrev pub IsMovedTo : ℕ → List ℕ → List ℕ → Type 0
-IsMovedTo at old new = new ≡ slice_set old 0 (control_word (control_kind (slice_index old 0)) (control_state (slice_index old 0)) at)
+-- in the second words the frame stands at this line of this state, and nothing else changed
+abbrev pub IsMovedTo : ℕ → ℕ → List ℕ → List ℕ → Type 0
+IsMovedTo state at old new = new ≡ slice_set old 0 (control_word (control_kind (slice_index old 0)) state at)
 
 -- the task ran from the frame of the first words to that of the second ones, where it stopped
 pub record IsRun (p : Program) (c : Columns) (old : List ℕ) (asked : Act) (new : List ℕ) : Type 0 where

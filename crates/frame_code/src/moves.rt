@@ -1,20 +1,23 @@
-ghost use Rattle.std.specs.Prelude.{◌≡◌};
+ghost use Rattle.std.specs.Prelude.{◌≡◌, ℕ};
 ghost use Rattle.frame_code.specs.Words.{body_of};
 ghost use Rattle.frame_code.specs.Frames.{IsFrame};
-ghost use Rattle.frame_code.specs.Names.{names_of};
-ghost use Rattle.frame_code.specs.Moves.{IsGiven, passed_on, entered, MayGive, MayPass, MayEnter};
+ghost use Rattle.frame_code.specs.Moves.{IsRead, IsGiven, passed_on, entered, MayGive, MayPass, MayEnter};
 ghost use Rattle.frame_code.specs.Ways.{BodyHasWay, KeepsWay};
 
 use crate::lookup::{kind_at, line_at, state_at};
 use crate::places::number_place;
-use crate::words::{AGGREGATE, Control, Frame};
-use task_syntax::{Checked, Instr, Line, Program};
+use crate::words::{AGGREGATE, Control, Frame, stand};
+use task_syntax::{Checked, Instr};
 
-/// The line at which a task's frame stands.
-fn line_of(program: &Program, control: Control) -> &Line
+/// The variable that a read sets.
+fn variable_read(instr: &Instr) -> u16
+    requires { IsRead instr.now }
+    ensures { (x : ℕ) × (instr.now ≡ Instr.Get result x) }
 {
-    let kind = kind_at(program, control.kind);
-    line_at(state_at(kind, control.state), control.at)
+    match instr {
+        Instr::Get { to, .. } => *to,
+        _ => unreachable!(),
+    }
 }
 
 /// Gives a task the number that it asked for. It is set in the variable of the read, and the frame stands at the next line.
@@ -25,24 +28,17 @@ pub fn give(checked: &Checked, frame: &mut Frame, number: u64)
     ensures given { IsGiven checked.now (body_of checked.now frame.old.items) number (body_of checked.now frame.new.items) }
     ensures way { KeepsWay checked.now (body_of checked.now frame.old.items) (body_of checked.now frame.new.items) }
 {
-    let control = Control::unpack(frame[0]);
+    let words = frame.as_mut_slice();
+    let control = Control::unpack(words[0]);
     let kind = kind_at(checked.program(), control.kind);
-    match &line_of(checked.program(), control).instr {
-        Instr::Get { to, .. } => {
-            let place = number_place(kind.variables.as_slice(), *to);
-            let words = frame.as_mut_slice();
-            words[place] = number;
-            words[0] = Control {
-                at: control.at + 1,
-                ..control
-            }
-            .pack();
-        }
-        _ => unreachable!(),
-    }
+    let line = line_at(state_at(kind, control.state), control.at);
+    let to = variable_read(&line.instr);
+    let place = number_place(kind.variables.as_slice(), to);
+    words[place] = number;
+    stand(words, control.state, control.at + 1);
 }
 
-/// Moves a frame to the line behind its spawn, `all`, `copy` or `drop`. The future that is named there is not set.
+/// Moves a frame to the line after its spawn, `all`, `copy` or `drop`. The future that is named there is not set.
 pub fn pass_on(checked: &Checked, frame: &mut Frame)
     requires frame { IsFrame checked.now frame.old.items }
     requires passed { MayPass checked.now (body_of checked.now frame.old.items) }
@@ -50,12 +46,11 @@ pub fn pass_on(checked: &Checked, frame: &mut Frame)
     ensures moved { body_of checked.now frame.new.items ≡ passed_on (body_of checked.now frame.old.items) }
     ensures way { KeepsWay checked.now (body_of checked.now frame.old.items) (body_of checked.now frame.new.items) }
 {
-    let control = Control::unpack(frame[0]);
-    frame[0] = Control {
-        at: control.at + 1,
-        ..control
-    }
-    .pack();
+    // The program is well formed, so another line follows.
+    let _program = checked.program();
+    let words = frame.as_mut_slice();
+    let control = Control::unpack(words[0]);
+    stand(words, control.state, control.at + 1);
 }
 
 /// Moves a frame to the first line of the state to which its task respawns; the futures that are not held there are still
@@ -67,18 +62,13 @@ pub fn enter(checked: &Checked, frame: &mut Frame, target: u16)
     ensures moved { body_of checked.now frame.new.items ≡ entered target (body_of checked.now frame.old.items) }
     ensures way { BodyHasWay checked.now (body_of checked.now frame.new.items) }
 {
-    let control = Control::unpack(frame[0]);
-    let next = if control.kind == AGGREGATE {
-        Control {
-            at: control.at + 1,
-            ..control
-        }
+    // The program is well formed, so the state is there, and has a line.
+    let _program = checked.program();
+    let words = frame.as_mut_slice();
+    let control = Control::unpack(words[0]);
+    if control.kind == AGGREGATE {
+        stand(words, control.state, control.at + 1);
     } else {
-        Control {
-            kind: control.kind,
-            state: target,
-            at: 0,
-        }
-    };
-    frame[0] = next.pack();
+        stand(words, target, 0);
+    }
 }

@@ -9,25 +9,15 @@ ghost use Rattle.frame_code.specs.Members.{member_act};
 ghost use Rattle.frame_code.specs.Stops.{Advances};
 ghost use Rattle.frame_code.specs.Meant.{KeepsMeaning, AreHeld};
 ghost use Rattle.frame_code.specs.Ways.{KeepsWay};
-ghost use Rattle.frame_code.specs.Run.{unpacked, IsMovedTo, IsRun};
+ghost use Rattle.frame_code.specs.Run.{IsRun};
 
 use crate::act::{Act, RespawnRequest};
 use crate::line::{Step, carry_out};
 use crate::lookup::{kind_at, line_at, state_at};
 use crate::places::number_places;
 use crate::request::request;
-use crate::words::{AGGREGATE, Control, Frame};
+use crate::words::{AGGREGATE, Control, Frame, stand};
 use task_syntax::{Checked, Columns, Priority};
-
-/// Makes a frame stand at a line.
-fn stand(words: &mut [u64], control: Control, at: u16)
-    requires head { control ≡ unpacked (slice_index words.old 0) }
-    requires some { 0 < length words.old }
-    requires near { at < 256 }
-    ensures { IsMovedTo at words.old words.new }
-{
-    words[0] = Control { at, ..control }.pack();
-}
 
 /// Runs a task to the first line where it stops.
 fn run(checked: &Checked, columns: &Columns, words: &mut [u64]) -> Act
@@ -47,12 +37,12 @@ fn run(checked: &Checked, columns: &Columns, words: &mut [u64]) -> Act
         match carry_out(kind, &line.instr, columns, places.as_slice(), words, at) {
             Step::Goes(next) => at = next,
             Step::Traps(trap) => {
-                stand(words, control, at);
+                stand(words, control.state, at);
                 return Act::Trap(trap);
             }
             Step::Asks => {
                 let asked = request(kind, &line.instr, places.as_slice(), words);
-                stand(words, control, at);
+                stand(words, control.state, at);
                 return asked;
             }
         }

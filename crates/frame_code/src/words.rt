@@ -1,6 +1,6 @@
-ghost use Rattle.std.specs.Prelude.{◌≡◌, ◌<◌};
+ghost use Rattle.std.specs.Prelude.{◌≡◌, ◌<◌, length};
 ghost use Rattle.frame_code.specs.Control.{control_word};
-ghost use Rattle.frame_code.specs.Run.{unpacked};
+ghost use Rattle.frame_code.specs.Run.{unpacked, IsMovedTo};
 
 use arrayvec::ArrayVec;
 
@@ -41,4 +41,15 @@ impl Control {
     {
         self.kind as u64 + 256 * self.state as u64 + 65536 * self.at as u64
     }
+}
+
+/// Makes a frame stand at a line of a state; of an aggregate these are how many members it has, and the next one.
+pub fn stand(words: &mut [u64], state: u16, at: u16)
+    requires some { 0 < length words.old }
+    requires state { state < 256 }
+    requires at { at < 256 }
+    ensures { IsMovedTo state at words.old words.new }
+{
+    let kind = Control::unpack(words[0]).kind;
+    words[0] = Control { kind, state, at }.pack();
 }

@@ -3,11 +3,10 @@ use Rattle.frame_code.specs.Control.{control_at}
 use Rattle.frame_code.specs.Words.{frame_at}
 use Rattle.frame_code.specs.Stops.{stop_at, GoesTo, stays}
 use Rattle.frame_code.specs.Line.{standing}
-use Rattle.frame_code.specs.Run.{IsMovedTo}
 use Rattle.frame_code.specs.declared.act.Act.TheVariants.{Trap}
 use Rattle.frame_code.specs.declared.words.Control.{Control}
 use Rattle.frame_code.proofs.ControlWords.{frame-line}
-use Rattle.frame_code.proofs.RunLines.{StandsIn, stands-in, code-here, frame-here, fits-here, near-here, passes-here, next-here, run-here}
+use Rattle.frame_code.proofs.RunLines.{StandsIn, stands-in, code-here, frame-here, fits-here, near-here, passes-here, next-here, moved-there, run-here}
 use Rattle.frame_code.proofs.run.run.Goals as goal
 
 pub lines-init : goal.lines-init
@@ -60,13 +59,13 @@ lines-preserved c =
           c.line_at-line.ensures c.in-Goes.ensures.step.0 c.in-Goes.ensures.step.1).1;
     }
 
-pub stand-requires-clause-near : goal.stand-requires-clause-near
-stand-requires-clause-near c =
+pub stand-requires-clause-at : goal.stand-requires-clause-at
+stand-requires-clause-at c =
     let h = near-here c.args.checked.now (slice_index c.args.words.now 0) c.kind_at-kind.result.now c.state_at-state.result.now c.program.ensures.formed c.lines.invariant.of
         c.lines.at c.lines.invariant.stands in omega arith
 
-pub stand-requires-in-Asks-clause-near : goal.stand-requires-in-Asks-clause-near
-stand-requires-in-Asks-clause-near c =
+pub stand-requires-in-Asks-clause-at : goal.stand-requires-in-Asks-clause-at
+stand-requires-in-Asks-clause-at c =
     let h = near-here c.args.checked.now (slice_index c.args.words.now 0) c.kind_at-kind.result.now c.state_at-state.result.now c.program.ensures.formed c.lines.invariant.of
         c.lines.at c.lines.invariant.stands in omega arith
 
@@ -77,13 +76,13 @@ request-asked-requires-clause-fits c = fits-here c.args.checked.now (slice_index
 pub returns-in-Traps-clause-run : goal.returns-in-Traps-clause-run
 returns-in-Traps-clause-run c = run-here c.args.checked.now (slice_index c.args.words.now 0) c.kind_at-kind.result.now c.state_at-state.result.now c.program.ensures.formed c.lines.invariant.of c.args.columns.now
     c.args.words.now c.lines.words c.stand.new.words c.lines.at c.line_at-line.result.now (Trap c.in-Traps.trap) c.requires.frame refl c.requires.task
-    c.lines.auto.words c.lines.invariant.head (subst (λ ws. IsMovedTo c.lines.at ws c.stand.new.words) c.in-Traps.ensures.step.1 c.stand.ensures)
+    c.lines.auto.words c.lines.invariant.head (moved-there (slice_index c.args.words.now 0) c.unpack-control.result c.lines.at c.carry_out.new.words c.lines.words c.stand.new.words c.unpack-control.ensures c.in-Traps.ensures.step.1 c.stand.ensures)
     c.line_at-line.ensures c.lines.invariant.goes c.in-Traps.ensures.step.0
 
 pub returns-in-Asks-clause-run : goal.returns-in-Asks-clause-run
 returns-in-Asks-clause-run c = run-here c.args.checked.now (slice_index c.args.words.now 0) c.kind_at-kind.result.now c.state_at-state.result.now c.program.ensures.formed c.lines.invariant.of c.args.columns.now
     c.args.words.now c.lines.words c.stand-in-Asks.new.words c.lines.at c.line_at-line.result.now c.request-asked.result c.requires.frame refl c.requires.task
-    c.lines.auto.words c.lines.invariant.head (subst (λ ws. IsMovedTo c.lines.at ws c.stand-in-Asks.new.words) c.in-Asks.ensures.step.1 c.stand-in-Asks.ensures)
+    c.lines.auto.words c.lines.invariant.head (moved-there (slice_index c.args.words.now 0) c.unpack-control.result c.lines.at c.carry_out.new.words c.lines.words c.stand-in-Asks.new.words c.unpack-control.ensures c.in-Asks.ensures.step.1 c.stand-in-Asks.ensures)
     c.line_at-line.ensures c.lines.invariant.goes
     (subst (λ ws. stop_at c.args.columns.now c.line_at-line.result.now.instr (standing c.kind_at-kind.result.now ws c.lines.at) ≡ Some c.request-asked.result)
         c.in-Asks.ensures.step.1 (c.request-asked.ensures c.args.columns.now c.lines.at))
