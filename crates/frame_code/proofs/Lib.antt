@@ -14,3 +14,6 @@ pub mod AdvanceClauses
 pub mod MovedFrames
 pub mod PassedFrames
 pub mod EnteredFrames
+pub mod NameChanges
+pub mod WordsOfBody
+pub mod WayLaws

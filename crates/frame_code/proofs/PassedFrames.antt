@@ -32,7 +32,7 @@ use Rattle.frame_code.proofs.Aggregates.{refill-same, body-of_task}
 use Rattle.frame_code.proofs.MovedFrames.{task-stands, IsLineOf, line-of, moved-words, moved-is_frame, moved-is_task, moved-body}
 
 -- behind a spawn, an aggregate, a copy, a drop and a read a task goes on
-passed-remains : (instr : Instr) → IsPassed instr → ¬ Leaves instr
+pub passed-remains : (instr : Instr) → IsPassed instr → ¬ Leaves instr
 passed-remains (Spawn to kind arguments waits priority retry) h l = l
 passed-remains (All to members priority retry) h l = l
 passed-remains (Copy to source) h l = l

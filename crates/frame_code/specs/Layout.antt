@@ -1,6 +1,7 @@
 -- The words that say a body. Read together with `body_of` they tell where each variable stands.
 use Rattle.std.specs.Prelude.{◌≡◌, ℕ, suc, ◌+◌, ◌-◌, Option, List, [], ◌∷◌, ◌++◌, length, map, take}
 use Rattle.task_syntax.specs.Form.{IsWellFormed}
+use Rattle.task_syntax.specs.declared.program.Sort.{Sort}
 use Rattle.task_syntax.specs.declared.program.Sort.TheVariants.{Number, Future}
 use Rattle.task_syntax.specs.declared.program.Variable.{Variable}
 use Rattle.task_syntax.specs.declared.program.Program.{Program}
@@ -18,14 +19,22 @@ number_place vs x = 1 + number_count (take x vs)
 abbrev pub future_place : List Variable → ℕ → ℕ
 future_place vs x = 1 + number_count vs + (x - number_count (take x vs))
 
+abbrev pub number_word : Sort → ℕ → List ℕ
+number_word Number n = n ∷ []
+number_word Future n = []
+
 -- what the number variables have, in order
 abbrev pub number_words : List Variable → List ℕ → List ℕ
-number_words (v ∷ vs) (n ∷ ns) = elim v.sort [ Number ↦ n ∷ number_words vs ns | Future ↦ number_words vs ns ]
+number_words (v ∷ vs) (n ∷ ns) = number_word v.sort n ++ number_words vs ns
 number_words _ _ = []
+
+abbrev pub future_word : Sort → Option ℕ → List ℕ
+future_word Number future = []
+future_word Future future = link_code future ∷ []
 
 -- what the future variables name, in order: a link is 0 to nothing, else the unit plus 1
 abbrev pub future_words : List Variable → List (Option ℕ) → List ℕ
-future_words (v ∷ vs) (f ∷ fs) = elim v.sort [ Number ↦ future_words vs fs | Future ↦ link_code f ∷ future_words vs fs ]
+future_words (v ∷ vs) (f ∷ fs) = future_word v.sort f ++ future_words vs fs
 future_words _ _ = []
 
 -- the words of a frame: the control word, the numbers, the futures

@@ -8,6 +8,7 @@
 mod act;
 mod arithmetic;
 mod few;
+mod laws;
 mod line;
 mod lookup;
 mod moves;
@@ -19,6 +20,10 @@ mod words;
 
 pub use act::{Act, AllRequest, RespawnRequest, SpawnRequest};
 pub use few::Few;
+pub use laws::{
+    aggregates_are_in_turn, frames_have_ways, one_name_changes, stops_are_acts,
+    words_are_their_body,
+};
 pub use moves::{enter, give, pass_on};
 pub use run::advance;
 pub use size::{class_of, members_class, words_of};
