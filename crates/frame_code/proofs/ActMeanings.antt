@@ -49,7 +49,13 @@ stop-act c (Math op to left right) q asked e = trap-act q (computed op (operand 
 stop-act c (Cell to column row) q asked e = trap-act q (cell_at c column (operand q.numbers row)) to asked e
 stop-act c (Spawn to kind arguments waits priority retry) q asked e =
     let s : act.Spawn (record {
-      to = to; kind = kind; numbers = numbers_passed q.numbers arguments; futures = variables_passed arguments; behind = waits; priority = priority; retry = retry;
+      to = to;
+      kind = kind;
+      numbers = numbers_passed q.numbers arguments;
+      futures = variables_passed arguments;
+      behind = waits;
+      priority = priority;
+      retry = retry;
     }) ≡ asked = cc in subst (λ a. IsActOf q a (act_of c (Spawn to kind arguments waits priority retry) q)) s (arguments, refl, refl, refl)
 stop-act c (All to members priority retry) q asked e =
     let s : act.All (record { to = to; members = members; priority = priority; retry = retry }) ≡ asked = cc in
@@ -68,5 +74,9 @@ stop-acts p c q asked h = (act_of c h.0.instr q, (h.0, h.1, refl), stop-act c h.
 
 pub advance-meaning : (p : Program) (c : Columns) (q last : FrameOf ℕ) (asked : Act) → IsWellFormed p → GoesTo p c q last → StopsAt p c last asked
     → KeepsMeaning p c (OfKind q) asked (OfKind last)
-advance-meaning p c q last asked formed goes h = (act_of c h.0.instr last, (h.0, h.1, refl), stop-act c h.0.instr last asked h.2,
-    λ n meant. goes-rest p c (suc n) meant q last formed goes ∙ line-follows p c n meant last h.0 formed h.1)
+advance-meaning p c q last asked formed goes h = (
+  act_of c h.0.instr last,
+  (h.0, h.1, refl),
+  stop-act c h.0.instr last asked h.2,
+  λ n meant. goes-rest p c (suc n) meant q last formed goes ∙ line-follows p c n meant last h.0 formed h.1,
+)

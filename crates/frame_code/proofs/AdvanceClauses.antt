@@ -8,7 +8,7 @@ use Rattle.task_syntax.specs.declared.columns.Columns.{Columns}
 use Rattle.frame_code.specs.Words.{BodyOf, OfKind, frame_at, body_of}
 use Rattle.frame_code.specs.Names.{present, names_of}
 use Rattle.frame_code.specs.Meant.{KeepsMeaning, AreHeld}
-use Rattle.frame_code.specs.Ways.{KeepsWay}
+use Rattle.frame_code.specs.Ways.{BodyKeepsWay}
 use Rattle.frame_code.specs.Run.{unpacked, IsRun}
 use Rattle.frame_code.specs.declared.act.Act.{Act}
 use Rattle.frame_code.specs.declared.words.Control.{Control}
@@ -22,7 +22,7 @@ pub record IsAdvance (p : Program) (c : Columns) (body : BodyOf ℕ) (asked : Ac
   pub meaning : KeepsMeaning p c body asked last
   pub held : AreHeld p asked last
   pub names : names_of last ≡ names_of body
-  pub way : KeepsWay p body last
+  pub way : BodyKeepsWay p body last
 
 -- `control` is what the first of these words says, and the run wrote the words whole
 pub run-advances : (p : Program) (c : Columns) (old words new : List ℕ) (control : Control) (asked : Act) → IsWellFormed p → IsValid p → words ≡ old

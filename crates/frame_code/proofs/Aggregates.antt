@@ -9,7 +9,7 @@ use Rattle.frame_code.specs.Control.{control_kind, control_state, control_at, is
 use Rattle.frame_code.specs.Words.{BodyOf, OfKind, OfMembers, unit_named, members_at, frame_at, body_of}
 use Rattle.frame_code.specs.Frames.{IsAggregateFrame}
 use Rattle.frame_code.specs.Members.{member_act}
-use Rattle.frame_code.specs.Stops.{Advances}
+use Rattle.frame_code.specs.Stops.{BodyAdvances}
 use Rattle.frame_code.specs.Meant.{KeepsMeaning}
 use Rattle.frame_code.specs.Run.{unpacked}
 use Rattle.frame_code.specs.declared.act.Act.{Act}
@@ -69,12 +69,12 @@ member-asked words control asked group says waits done =
 
 pub aggregate-acts : (p : Program) (c : Columns) (old new : List ℕ) (asked : Act) → is_aggregate (slice_index old 0) ≡ true → new ≡ old
     → member_act (slice_get (members_at (slice_index old)) (control_at (slice_index old 0))) (control_at (slice_index old 0)) ≡ asked
-    → Advances p c (body_of p old) asked (body_of p new)
+    → BodyAdvances p c (body_of p old) asked (body_of p new)
 aggregate-acts p c old new asked group same act =
     let is_old = body-of_members p old group in
     let is_new = ap (body_of p) same ∙ is_old in
-    subst (λ b. Advances p c b asked (body_of p new)) (sym is_old)
-        (subst (λ b. Advances p c (OfMembers (members_at (slice_index old)) (control_at (slice_index old 0))) asked b) (sym is_new) (refl, refl, act))
+    subst (λ b. BodyAdvances p c b asked (body_of p new)) (sym is_old)
+    (subst (λ b. BodyAdvances p c (OfMembers (members_at (slice_index old)) (control_at (slice_index old 0))) asked b) (sym is_new) (refl, refl, act))
 
 pub aggregate-meaning : (p : Program) (c : Columns) (old new : List ℕ) (asked : Act) → is_aggregate (slice_index old 0) ≡ true → new ≡ old
     → member_act (slice_get (members_at (slice_index old)) (control_at (slice_index old 0))) (control_at (slice_index old 0)) ≡ asked
@@ -85,4 +85,4 @@ aggregate-meaning p c old new asked group same act =
     let members : List ℕ = members_at (slice_index old) in
     let next : ℕ = control_at (slice_index old 0) in
     subst (λ b. KeepsMeaning p c b asked (body_of p new)) (sym is_old) (subst (λ b. KeepsMeaning p c (OfMembers members next) asked b) (sym is_new)
-        (subst (λ a. KeepsMeaning p c (OfMembers members next) a (OfMembers members next)) act (λ meant. members-follow meant members next)))
+    (subst (λ a. KeepsMeaning p c (OfMembers members next) a (OfMembers members next)) act (λ meant. members-follow meant members next)))

@@ -47,30 +47,30 @@ task-size p words frame task = frame.size
 module _ (p : Program) (old new : List ℕ) (state at : ℕ) (frame : IsFrame p old) (task : is_aggregate (slice_index old 0) ≡ false) (as_long : length new ≡ length old)
     (head : slice_index new 0 ≡ control_word (control_kind (slice_index old 0)) state at) (line : at < length (code_at p (control_kind (slice_index old 0)) state))
     (state_fits : state < 256) (at_fits : at < 256)
-    where
-  kind : ℕ
-  kind = control_kind (slice_index old 0)
+  where
+    kind : ℕ
+    kind = control_kind (slice_index old 0)
 
-  pub moved-kind : control_kind (slice_index new 0) ≡ control_kind (slice_index old 0)
-  moved-kind = ap control_kind head ∙ kind-of_word (control_kind (slice_index old 0)) state at (kind-fits (slice_index old 0)) state_fits at_fits
+    pub moved-kind : control_kind (slice_index new 0) ≡ control_kind (slice_index old 0)
+    moved-kind = ap control_kind head ∙ kind-of_word (control_kind (slice_index old 0)) state at (kind-fits (slice_index old 0)) state_fits at_fits
 
-  pub moved-state : control_state (slice_index new 0) ≡ state
-  moved-state = ap control_state head ∙ state-of_word (control_kind (slice_index old 0)) state at (kind-fits (slice_index old 0)) state_fits at_fits
+    pub moved-state : control_state (slice_index new 0) ≡ state
+    moved-state = ap control_state head ∙ state-of_word (control_kind (slice_index old 0)) state at (kind-fits (slice_index old 0)) state_fits at_fits
 
-  pub moved-at : control_at (slice_index new 0) ≡ at
-  moved-at = ap control_at head ∙ at-of_word (control_kind (slice_index old 0)) state at (kind-fits (slice_index old 0)) state_fits at_fits
+    pub moved-at : control_at (slice_index new 0) ≡ at
+    moved-at = ap control_at head ∙ at-of_word (control_kind (slice_index old 0)) state at (kind-fits (slice_index old 0)) state_fits at_fits
 
-  pub moved-task : is_aggregate (slice_index new 0) ≡ false
-  moved-task = ap (λ n. nat_eq n aggregate_code) moved-kind ∙ task
+    pub moved-task : is_aggregate (slice_index new 0) ≡ false
+    moved-task = ap (λ n. nat_eq n aggregate_code) moved-kind ∙ task
 
-  pub moved-frame : IsFrame p new
-  moved-frame = record {
-    size = as_long ∙ (task-size p old frame task ∙ (ap (λ k. 1 + variables_of p k) (sym moved-kind)
-        ∙ ap (λ b. cond b (1 + control_state (slice_index new 0)) (1 + variables_of p (control_kind (slice_index new 0)))) (sym moved-task)));
-    few = omega (arith, as_long, frame.few);
-    control = omega (arith, head, word-fits (control_kind (slice_index old 0)) state at (kind-fits (slice_index old 0)) state_fits at_fits);
-    says = subst (λ b. cond b (IsAggregateFrame (slice_index new)) (IsKindControl p (slice_index new 0))) (sym moved-task) (record {
-      kind = subst (λ k. k < length p.kinds) (sym moved-kind) (frame-line p old frame task).kind;
-      line = omega (arith, line, moved-at, ap (λ k. length (code_at p k (control_state (slice_index new 0)))) moved-kind, ap (λ s. length (code_at p (control_kind (slice_index old 0)) s)) moved-state);
-    });
-  }
+    pub moved-frame : IsFrame p new
+    moved-frame = record {
+      size = as_long ∙ (task-size p old frame task ∙ (ap (λ k. 1 + variables_of p k) (sym moved-kind)
+          ∙ ap (λ b. cond b (1 + control_state (slice_index new 0)) (1 + variables_of p (control_kind (slice_index new 0)))) (sym moved-task)));
+      few = omega (arith, as_long, frame.few);
+      control = omega (arith, head, word-fits (control_kind (slice_index old 0)) state at (kind-fits (slice_index old 0)) state_fits at_fits);
+      says = subst (λ b. cond b (IsAggregateFrame (slice_index new)) (IsKindControl p (slice_index new 0))) (sym moved-task) (record {
+        kind = subst (λ k. k < length p.kinds) (sym moved-kind) (frame-line p old frame task).kind;
+        line = omega (arith, line, moved-at, ap (λ k. length (code_at p k (control_state (slice_index new 0)))) moved-kind, ap (λ s. length (code_at p (control_kind (slice_index old 0)) s)) moved-state);
+      });
+    }

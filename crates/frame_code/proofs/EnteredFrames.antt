@@ -66,8 +66,7 @@ pub entered-clauses : (p : Program) (old new : List ℕ) (target : ℕ) → IsFr
     → IsTarget p (control_kind (slice_index old 0)) target → IsMovedTo target 0 old new
     → IsFrame p new × (body_of p new ≡ entered target (body_of p old)) × BodyHasWay p (body_of p new)
 entered-clauses p old new target frame task to moved =
-    let is = moved-body p old new target 0 frame task moved to.some to.fits (omega arith) in
-    (
+    let is = moved-body p old new target 0 frame task moved to.some to.fits (omega arith) in (
       moved-is_frame p old new target 0 frame task moved to.some to.fits (omega arith),
       is ∙ ap (entered target) (sym (body-of_task p old task)),
       subst (BodyHasWay p) (sym is) (to.state, at_start to.state, to.is_state, starts),
@@ -118,8 +117,7 @@ group-clauses p old new target frame group may moved =
     let is_members : members_at (slice_index new) ≡ members_at (slice_index old)
     = ap (λ n. filter_map unit_named (words_from (slice_index new) 1 n)) s ∙ ap (filter_map unit_named) (words-same (slice_index old) (slice_index new) 1 members other) in
     let is : body_of p new ≡ OfMembers (members_at (slice_index old)) (next + 1)
-    = body-of_members p new is_group ∙ (ap (λ ms. OfMembers ms (control_at (slice_index new 0))) is_members ∙ ap (OfMembers (members_at (slice_index old))) a) in
-    (
+    = body-of_members p new is_group ∙ (ap (λ ms. OfMembers ms (control_at (slice_index new 0))) is_members ∙ ap (OfMembers (members_at (slice_index old))) a) in (
       record {
         size = long ∙ (size ∙ (ap (λ n. 1 + n) (sym s) ∙ ap (λ b. cond b (1 + control_state (slice_index new 0)) (1 + variables_of p (control_kind (slice_index new 0)))) (sym is_group)));
         few = omega (arith, long, frame.few);

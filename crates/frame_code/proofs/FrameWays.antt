@@ -46,8 +46,12 @@ passes-way p c q next h way =
     let m : Moves h.0.instr q next = passes-moves q next c h.0.instr h.2.0 h.2.1 in
     elim m.goes [
       | inl g ↦ way-on p q next h.0 h.1 g.1 m.kind m.state g.0 way
-      | inr j ↦ (way.0, way.1, ap (λ n. state_at p n next.state) m.kind ∙ (ap (state_at p q.kind) m.state ∙ way.2),
-          jumps h.0.instr next.at way.3 (stands-there p q way.0 h.0 way.2 h.1) j)
+      | inr j ↦ (
+        way.0,
+        way.1,
+        ap (λ n. state_at p n next.state) m.kind ∙ (ap (state_at p q.kind) m.state ∙ way.2),
+        jumps h.0.instr next.at way.3 (stands-there p q way.0 h.0 way.2 h.1) j,
+      )
     ]
 
 pub goes-way : {A : Type 0} (p : Program) (c : Columns) (q last : FrameOf A) → GoesTo p c q last → HasWay p q → HasWay p last

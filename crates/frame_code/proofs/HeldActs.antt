@@ -48,12 +48,21 @@ stop-held p c kind state (Math op to left right) q asked formed sound e = trap-h
 stop-held p c kind state (Cell to column row) q asked formed sound e = trap-held state q.at (cell_at c column (operand q.numbers row)) asked e
 stop-held p c kind state (Spawn to callee arguments waits priority retry) q asked formed sound e =
     let s : act.Spawn (record {
-      to = to; kind = callee; numbers = numbers_passed q.numbers arguments; futures = variables_passed arguments; behind = waits; priority = priority; retry = retry;
+      to = to;
+      kind = callee;
+      numbers = numbers_passed q.numbers arguments;
+      futures = variables_passed arguments;
+      behind = waits;
+      priority = priority;
+      retry = retry;
     }) ≡ asked = cc in
     let k = item-within p.kinds callee formed.1 in
     let spawns : SpawnsSoundly k.0 state q.at arguments waits = sound k.0 k.1 in
-    subst (IsHeldAct state q.at) s (each-append (Held state q.at) (variables_passed arguments) (option_to_list waits) (variables-held state q.at arguments spawns.held)
-        (each-option (Held state q.at) waits spawns.behind_held), tt)
+    subst (IsHeldAct state q.at) s (
+      each-append (Held state q.at) (variables_passed arguments) (option_to_list waits) (variables-held state q.at arguments spawns.held)
+          (each-option (Held state q.at) waits spawns.behind_held),
+      tt,
+    )
 stop-held p c kind state (All to members priority retry) q asked formed sound e =
     let s : act.All (record { to = to; members = members; priority = priority; retry = retry }) ≡ asked = cc in subst (IsHeldAct state q.at) s (sound, tt)
 stop-held p c kind state (Copy to source) q asked formed sound e =
@@ -84,4 +93,4 @@ acts-held p c q asked formed valid h state is_state =
     let k = kind-of p q.kind q.state state is_state in
     let line : slice_get state.code q.at ≡ Some h.0 = ap (λ o. slice_get (code_in o) q.at) (sym is_state) ∙ h.1 in
     stop-held p c k.0 state h.0.instr q asked ((((formed.kinds q.kind k.0 k.1).states) q.state state k.2).instrs q.at h.0 line)
-        ((((valid.kinds q.kind k.0 k.1).states) q.state state k.2).instrs q.at h.0.instr (ap (option_map (λ (l : Line). l.instr)) line)) h.2
+    ((((valid.kinds q.kind k.0 k.1).states) q.state state k.2).instrs q.at h.0.instr (ap (option_map (λ (l : Line). l.instr)) line)) h.2

@@ -32,7 +32,7 @@ module _ (kind : Kind) (x : ℕ) (number : IsNumberAt kind x) where
       = number-sets (slice_index words) (slice_index new) 1 kind.variables x n number (get_or-set_same words place n 0 within) other in
       let futures : futures_from (slice_index new) (1 + number_count kind.variables) kind.variables ≡ futures_from (slice_index words) (1 + number_count kind.variables) kind.variables
       = futures-same (slice_index words) (slice_index new) (1 + number_count kind.variables) kind.variables
-          (λ k low. other k (λ h. omega (arith, h, low, place-high))) in
+      (λ k low. other k (λ h. omega (arith, h, low, place-high))) in
       cc
 
 module _ (kind : Kind) (places words : List ℕ) (laid : IsLaidOut kind places words) (x : ℕ) (number : IsNumberAt kind x) where

@@ -55,31 +55,31 @@ moved-words old words new state at same moved =
 
 module _ (p : Program) (old new : List ℕ) (state at : ℕ) (frame : IsFrame p old) (task : is_aggregate (slice_index old 0) ≡ false) (moved : IsMovedTo state at old new)
     (line : at < length (code_at p (control_kind (slice_index old 0)) state)) (state_fits : state < 256) (at_fits : at < 256)
-    where
-  moved-long : length new ≡ length old
-  moved-long = ap length moved ∙ length-set old 0 _
+  where
+    moved-long : length new ≡ length old
+    moved-long = ap length moved ∙ length-set old 0 _
 
-  moved-head : slice_index new 0 ≡ control_word (control_kind (slice_index old 0)) state at
-  moved-head =
-      let some : 0 < length old = omega (arith, task-size p old frame task) in
-      ap (λ (l : List ℕ). slice_index l 0) moved ∙ get_or-set_same old 0 _ 0 some
+    moved-head : slice_index new 0 ≡ control_word (control_kind (slice_index old 0)) state at
+    moved-head =
+        let some : 0 < length old = omega (arith, task-size p old frame task) in
+        ap (λ (l : List ℕ). slice_index l 0) moved ∙ get_or-set_same old 0 _ 0 some
 
-  moved-other : (k : ℕ) → k ≢ 0 → slice_index new k ≡ slice_index old k
-  moved-other k h = ap (λ (l : List ℕ). slice_index l k) moved ∙ get_or-set_other old 0 k _ 0 h
+    moved-other : (k : ℕ) → k ≢ 0 → slice_index new k ≡ slice_index old k
+    moved-other k h = ap (λ (l : List ℕ). slice_index l k) moved ∙ get_or-set_other old 0 k _ 0 h
 
-  pub moved-is_frame : IsFrame p new
-  moved-is_frame = moved-frame p old new state at frame task moved-long moved-head line state_fits at_fits
+    pub moved-is_frame : IsFrame p new
+    moved-is_frame = moved-frame p old new state at frame task moved-long moved-head line state_fits at_fits
 
-  pub moved-is_task : is_aggregate (slice_index new 0) ≡ false
-  moved-is_task = moved-task p old new state at frame task moved-long moved-head line state_fits at_fits
+    pub moved-is_task : is_aggregate (slice_index new 0) ≡ false
+    moved-is_task = moved-task p old new state at frame task moved-long moved-head line state_fits at_fits
 
-  -- the variables are as they were
-  pub moved-body : body_of p new ≡ OfKind (record (frame_at p (slice_index old)) { state = state; at = at })
-  moved-body =
-      let k : control_kind (slice_index new 0) ≡ control_kind (slice_index old 0) = moved-kind p old new state at frame task moved-long moved-head line state_fits at_fits in
-      let s : control_state (slice_index new 0) ≡ state = moved-state p old new state at frame task moved-long moved-head line state_fits at_fits in
-      let a : control_at (slice_index new 0) ≡ at = moved-at p old new state at frame task moved-long moved-head line state_fits at_fits in
-      let changed = frame-changed (variables_at p (control_kind (slice_index old 0))) old new moved-other in
-      let is : frame_at p (slice_index new) ≡ record (frame_at p (slice_index old)) { state = state; at = at }
-      = ap (λ n. kind_frame (variables_at p n) (slice_index new)) k ∙ (changed ∙ cc) in
-      body-of_task p new moved-is_task ∙ ap OfKind is
+    -- the variables are as they were
+    pub moved-body : body_of p new ≡ OfKind (record (frame_at p (slice_index old)) { state = state; at = at })
+    moved-body =
+        let k : control_kind (slice_index new 0) ≡ control_kind (slice_index old 0) = moved-kind p old new state at frame task moved-long moved-head line state_fits at_fits in
+        let s : control_state (slice_index new 0) ≡ state = moved-state p old new state at frame task moved-long moved-head line state_fits at_fits in
+        let a : control_at (slice_index new 0) ≡ at = moved-at p old new state at frame task moved-long moved-head line state_fits at_fits in
+        let changed = frame-changed (variables_at p (control_kind (slice_index old 0))) old new moved-other in
+        let is : frame_at p (slice_index new) ≡ record (frame_at p (slice_index old)) { state = state; at = at }
+        = ap (λ n. kind_frame (variables_at p n) (slice_index new)) k ∙ (changed ∙ cc) in
+        body-of_task p new moved-is_task ∙ ap OfKind is

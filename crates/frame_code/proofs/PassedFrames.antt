@@ -18,8 +18,8 @@ use Rattle.frame_code.specs.Words.{BodyOf, OfKind, OfMembers, variable_list, var
 use Rattle.frame_code.specs.Layout.{number_place}
 use Rattle.frame_code.specs.Frames.{frame_length, IsKindControl, IsAggregateFrame, IsFrame}
 use Rattle.frame_code.specs.Stops.{StandsAt}
-use Rattle.frame_code.specs.Moves.{IsRead, IsPassed, MayGive, MayPass, IsGiven, passed_on}
-use Rattle.frame_code.specs.Ways.{KeepsWay}
+use Rattle.frame_code.specs.Moves.{IsRead, IsPassed, MayGive, MayPass, BodyIsGiven, passed_on}
+use Rattle.frame_code.specs.Ways.{BodyKeepsWay}
 use Rattle.frame_code.specs.Line.{standing}
 use Rattle.frame_code.specs.Run.{unpacked, IsMovedTo}
 use Rattle.frame_code.specs.declared.words.Control.{Control}
@@ -88,101 +88,100 @@ of-past p old line past = line-of p (control_kind (slice_index old 0)) (control_
 
 module _ (p : Program) (old : List ℕ) (line : Line) (formed : IsWellFormed p) (past : GoesPast p old line)
     (of : IsLineOf p (control_kind (slice_index old 0)) (control_state (slice_index old 0)) (control_at (slice_index old 0)) line)
-    where
-  of-formed : IsFormedState p of.of_kind of.of_state
-  of-formed = (formed.kinds (control_kind (slice_index old 0)) of.of_kind of.is_kind).states (control_state (slice_index old 0)) of.of_state of.is_state
+  where
+    of-formed : IsFormedState p of.of_kind of.of_state
+    of-formed = (formed.kinds (control_kind (slice_index old 0)) of.of_kind of.is_kind).states (control_state (slice_index old 0)) of.of_state of.is_state
 
-  next-within : control_at (slice_index old 0) + 1 < length of.of_state.code
-  next-within = line-follows p of.of_kind of.of_state (control_at (slice_index old 0)) line of-formed of.is_line past.remains
+    next-within : control_at (slice_index old 0) + 1 < length of.of_state.code
+    next-within = line-follows p of.of_kind of.of_state (control_at (slice_index old 0)) line of-formed of.is_line past.remains
 
-  pub next-fits : control_at (slice_index old 0) + 1 < 64
-  next-fits = omega (arith, next-within, of-formed.fits)
+    pub next-fits : control_at (slice_index old 0) + 1 < 64
+    next-fits = omega (arith, next-within, of-formed.fits)
 
-  next-there : control_at (slice_index old 0) + 1 < length (code_at p (control_kind (slice_index old 0)) (control_state (slice_index old 0)))
-  next-there =
-      let code : code_at p (control_kind (slice_index old 0)) (control_state (slice_index old 0)) ≡ of.of_state.code
-      = ap (λ o. code_in (state_in o (control_state (slice_index old 0)))) of.is_kind ∙ ap code_in of.is_state in
-      subst (λ ls. control_at (slice_index old 0) + 1 < length ls) (sym code) next-within
+    next-there : control_at (slice_index old 0) + 1 < length (code_at p (control_kind (slice_index old 0)) (control_state (slice_index old 0)))
+    next-there =
+        let code : code_at p (control_kind (slice_index old 0)) (control_state (slice_index old 0)) ≡ of.of_state.code
+        = ap (λ o. code_in (state_in o (control_state (slice_index old 0)))) of.is_kind ∙ ap code_in of.is_state in
+        subst (λ ls. control_at (slice_index old 0) + 1 < length ls) (sym code) next-within
 
-  -- another frame of the same kind, state and line, with other numbers
-  module _ (set new : List ℕ) (frame : IsFrame p set) (same_head : slice_index set 0 ≡ slice_index old 0)
-      (moved : IsMovedTo (control_state (slice_index old 0)) (control_at (slice_index old 0) + 1) set new) where
-    set-task : is_aggregate (slice_index set 0) ≡ false
-    set-task = ap is_aggregate same_head ∙ past.task
+    -- another frame of the same kind, state and line, with other numbers
+    module _ (set new : List ℕ) (frame : IsFrame p set) (same_head : slice_index set 0 ≡ slice_index old 0)
+        (moved : IsMovedTo (control_state (slice_index old 0)) (control_at (slice_index old 0) + 1) set new) where
+      set-task : is_aggregate (slice_index set 0) ≡ false
+      set-task = ap is_aggregate same_head ∙ past.task
 
-    set-there : control_at (slice_index old 0) + 1 < length (code_at p (control_kind (slice_index set 0)) (control_state (slice_index old 0)))
-    set-there = subst (λ h. control_at (slice_index old 0) + 1 < length (code_at p (control_kind h) (control_state (slice_index old 0)))) (sym same_head) next-there
+      set-there : control_at (slice_index old 0) + 1 < length (code_at p (control_kind (slice_index set 0)) (control_state (slice_index old 0)))
+      set-there = subst (λ h. control_at (slice_index old 0) + 1 < length (code_at p (control_kind h) (control_state (slice_index old 0)))) (sym same_head) next-there
 
-    next-small : control_at (slice_index old 0) + 1 < 256
-    next-small = omega (arith, next-fits)
+      next-small : control_at (slice_index old 0) + 1 < 256
+      next-small = omega (arith, next-fits)
 
-    pub past-frame : IsFrame p new
-    past-frame = moved-is_frame p set new (control_state (slice_index old 0)) (control_at (slice_index old 0) + 1) frame set-task moved set-there (state-fits (slice_index old 0)) next-small
+      pub past-frame : IsFrame p new
+      past-frame = moved-is_frame p set new (control_state (slice_index old 0)) (control_at (slice_index old 0) + 1) frame set-task moved set-there (state-fits (slice_index old 0)) next-small
 
-    pub past-body : body_of p new ≡ OfKind (record (frame_at p (slice_index set)) { state = control_state (slice_index old 0); at = control_at (slice_index old 0) + 1 })
-    past-body = moved-body p set new (control_state (slice_index old 0)) (control_at (slice_index old 0) + 1) frame set-task moved set-there (state-fits (slice_index old 0)) next-small
+      pub past-body : body_of p new ≡ OfKind (record (frame_at p (slice_index set)) { state = control_state (slice_index old 0); at = control_at (slice_index old 0) + 1 })
+      past-body = moved-body p set new (control_state (slice_index old 0)) (control_at (slice_index old 0) + 1) frame set-task moved set-there (state-fits (slice_index old 0)) next-small
 
-  -- where there was a way to the line, there is one to the next
-  pub past-way : (next : FrameOf ℕ) (new : List ℕ) → next.kind ≡ control_kind (slice_index old 0) → next.state ≡ control_state (slice_index old 0)
-      → next.at ≡ control_at (slice_index old 0) + 1 → body_of p new ≡ OfKind next → KeepsWay p (body_of p old) (body_of p new)
-  past-way next new k s a is = subst (λ b. KeepsWay p b (body_of p new)) (sym (body-of_task p old past.task))
-      (subst (λ b. KeepsWay p (OfKind (frame_at p (slice_index old))) b) (sym is)
-      (way-on p (frame_at p (slice_index old)) next line past.stands past.remains k s a))
+    -- where there was a way to the line, there is one to the next
+    pub past-way : (next : FrameOf ℕ) (new : List ℕ) → next.kind ≡ control_kind (slice_index old 0) → next.state ≡ control_state (slice_index old 0)
+        → next.at ≡ control_at (slice_index old 0) + 1 → body_of p new ≡ OfKind next → BodyKeepsWay p (body_of p old) (body_of p new)
+    past-way next new k s a is = subst (λ b. BodyKeepsWay p b (body_of p new)) (sym (body-of_task p old past.task))
+        (subst (λ b. BodyKeepsWay p (OfKind (frame_at p (slice_index old))) b) (sym is)
+        (way-on p (frame_at p (slice_index old)) next line past.stands past.remains k s a))
 
-  -- what `pass_on` promises
-  pub passed-clauses : (new : List ℕ) → IsFrame p old → IsMovedTo (control_state (slice_index old 0)) (control_at (slice_index old 0) + 1) old new
-      → IsFrame p new × (body_of p new ≡ passed_on (body_of p old)) × KeepsWay p (body_of p old) (body_of p new)
-  passed-clauses new frame moved =
-      let is = past-body old new frame refl moved in
-      (past-frame old new frame refl moved, is ∙ ap passed_on (sym (body-of_task p old past.task)), past-way (go_on (frame_at p (slice_index old))) new refl refl refl is)
+    -- what `pass_on` promises
+    pub passed-clauses : (new : List ℕ) → IsFrame p old → IsMovedTo (control_state (slice_index old 0)) (control_at (slice_index old 0) + 1) old new
+        → IsFrame p new × (body_of p new ≡ passed_on (body_of p old)) × BodyKeepsWay p (body_of p old) (body_of p new)
+    passed-clauses new frame moved =
+        let is = past-body old new frame refl moved in
+        (past-frame old new frame refl moved, is ∙ ap passed_on (sym (body-of_task p old past.task)), past-way (go_on (frame_at p (slice_index old))) new refl refl refl is)
 
-  -- the variable of the read, and its place
-  module _ (to x n : ℕ) (reads : line.instr ≡ Get to x) (frame : IsFrame p old) where
-    pub read-number : IsNumberAt of.of_kind to
-    read-number = (subst (IsFormedInstr p of.of_kind of.of_state (control_at (slice_index old 0))) reads
-        (of-formed.instrs (control_at (slice_index old 0)) line of.is_line)).0
+    -- the variable of the read, and its place
+    module _ (to x n : ℕ) (reads : line.instr ≡ Get to x) (frame : IsFrame p old) where
+      pub read-number : IsNumberAt of.of_kind to
+      read-number = (subst (IsFormedInstr p of.of_kind of.of_state (control_at (slice_index old 0))) reads
+          (of-formed.instrs (control_at (slice_index old 0)) line of.is_line)).0
 
-    pub read-variables : variables_at p (control_kind (slice_index old 0)) ≡ of.of_kind.variables
-    read-variables = ap variable_list of.is_kind
+      pub read-variables : variables_at p (control_kind (slice_index old 0)) ≡ of.of_kind.variables
+      read-variables = ap variable_list of.is_kind
 
-    pub read-within : number_place of.of_kind.variables to < length old
-    read-within =
-        let size : length old ≡ 1 + length of.of_kind.variables = task-size p old frame past.task ∙ ap (λ o. 1 + variables_in o) of.is_kind in
-        omega (arith, size, place-high of.of_kind to read-number, count-most of.of_kind.variables)
+      pub read-within : number_place of.of_kind.variables to < length old
+      read-within =
+          let size : length old ≡ 1 + length of.of_kind.variables = task-size p old frame past.task ∙ ap (λ o. 1 + variables_in o) of.is_kind in
+          omega (arith, size, place-high of.of_kind to read-number, count-most of.of_kind.variables)
 
-    -- what `give` promises: the words with the number in its place, moved on
-    pub given-clauses : (set new : List ℕ) → set ≡ slice_set old (number_place of.of_kind.variables to) n
-        → IsMovedTo (control_state (slice_index old 0)) (control_at (slice_index old 0) + 1) set new
-        → IsFrame p new × IsGiven p (body_of p old) n (body_of p new) × KeepsWay p (body_of p old) (body_of p new)
-    given-clauses set new is_set moved =
-        let kind = of.of_kind in
-        let k : ℕ = control_kind (slice_index old 0) in
-        let s : ℕ = control_state (slice_index old 0) in
-        let a : ℕ = control_at (slice_index old 0) in
-        let same_head : slice_index set 0 ≡ slice_index old 0 = ap (λ (l : List ℕ). slice_index l 0) is_set
-            ∙ get_or-set_other old (number_place kind.variables to) 0 n 0 (λ e. omega (arith, e, place-low kind to read-number)) in
-        let set_frame : IsFrame p set = record {
-          size = ap length is_set ∙ (length-set old _ n ∙ (frame.size ∙ ap (frame_length p) (sym same_head)));
-          few = omega (arith, ap length is_set, length-set old (number_place kind.variables to) n, frame.few);
-          control = omega (arith, same_head, frame.control);
-          says = subst (λ b. cond b (IsAggregateFrame (slice_index set)) (IsKindControl p (slice_index set 0))) (sym (ap is_aggregate same_head ∙ past.task))
-              (subst (IsKindControl p) (sym same_head) (frame-line p old frame past.task));
-        } in
-        let vs_set : variables_at p (control_kind (slice_index set 0)) ≡ kind.variables = ap (λ h. variables_at p (control_kind h)) same_head ∙ read-variables in
-        let set_numbers : standing kind set (a + 1) ≡ set_number (standing kind old a) to n
-        = ap (λ l. standing kind l (a + 1)) is_set ∙ set-at_place kind to read-number old n a read-within in
-        let at_set : record (frame_at p (slice_index set)) { state = s; at = a + 1 } ≡ standing kind set (a + 1)
-        = ap (λ vs. record (kind_frame vs (slice_index set)) { state = s; at = a + 1 }) vs_set
-            ∙ ap (λ h. record (kind_frame kind.variables (slice_index set)) { state = control_state h; at = a + 1 }) (sym same_head) in
-        let at_old : standing kind old a ≡ frame_at p (slice_index old) = ap (λ vs. kind_frame vs (slice_index old)) (sym read-variables) in
-        let is : body_of p new ≡ OfKind (set_number (frame_at p (slice_index old)) to n)
-        = past-body set new set_frame same_head moved ∙ ap OfKind (at_set ∙ (set_numbers ∙ ap (λ q. set_number q to n) at_old)) in
-        (
-          past-frame set new set_frame same_head moved,
-          subst (λ b. IsGiven p b n (body_of p new)) (sym (body-of_task p old past.task)) (subst (λ b. IsGiven p (OfKind (frame_at p (slice_index old))) n b) (sym is)
-              (line, past.stands, (to, x, reads, refl))),
-          past-way (set_number (frame_at p (slice_index old)) to n) new refl refl refl is,
-        )
+      -- what `give` promises: the words with the number in its place, moved on
+      pub given-clauses : (set new : List ℕ) → set ≡ slice_set old (number_place of.of_kind.variables to) n
+          → IsMovedTo (control_state (slice_index old 0)) (control_at (slice_index old 0) + 1) set new
+          → IsFrame p new × BodyIsGiven p (body_of p old) n (body_of p new) × BodyKeepsWay p (body_of p old) (body_of p new)
+      given-clauses set new is_set moved =
+          let kind = of.of_kind in
+          let k : ℕ = control_kind (slice_index old 0) in
+          let s : ℕ = control_state (slice_index old 0) in
+          let a : ℕ = control_at (slice_index old 0) in
+          let same_head : slice_index set 0 ≡ slice_index old 0 = ap (λ (l : List ℕ). slice_index l 0) is_set
+          ∙ get_or-set_other old (number_place kind.variables to) 0 n 0 (λ e. omega (arith, e, place-low kind to read-number)) in
+          let set_frame : IsFrame p set = record {
+            size = ap length is_set ∙ (length-set old _ n ∙ (frame.size ∙ ap (frame_length p) (sym same_head)));
+            few = omega (arith, ap length is_set, length-set old (number_place kind.variables to) n, frame.few);
+            control = omega (arith, same_head, frame.control);
+            says = subst (λ b. cond b (IsAggregateFrame (slice_index set)) (IsKindControl p (slice_index set 0))) (sym (ap is_aggregate same_head ∙ past.task))
+                (subst (IsKindControl p) (sym same_head) (frame-line p old frame past.task));
+          } in
+          let vs_set : variables_at p (control_kind (slice_index set 0)) ≡ kind.variables = ap (λ h. variables_at p (control_kind h)) same_head ∙ read-variables in
+          let set_numbers : standing kind set (a + 1) ≡ set_number (standing kind old a) to n
+          = ap (λ l. standing kind l (a + 1)) is_set ∙ set-at_place kind to read-number old n a read-within in
+          let at_set : record (frame_at p (slice_index set)) { state = s; at = a + 1 } ≡ standing kind set (a + 1)
+          = ap (λ vs. record (kind_frame vs (slice_index set)) { state = s; at = a + 1 }) vs_set
+          ∙ ap (λ h. record (kind_frame kind.variables (slice_index set)) { state = control_state h; at = a + 1 }) (sym same_head) in
+          let at_old : standing kind old a ≡ frame_at p (slice_index old) = ap (λ vs. kind_frame vs (slice_index old)) (sym read-variables) in
+          let is : body_of p new ≡ OfKind (set_number (frame_at p (slice_index old)) to n)
+          = past-body set new set_frame same_head moved ∙ ap OfKind (at_set ∙ (set_numbers ∙ ap (λ q. set_number q to n) at_old)) in (
+            past-frame set new set_frame same_head moved,
+            subst (λ b. BodyIsGiven p b n (body_of p new)) (sym (body-of_task p old past.task)) (subst (λ b. BodyIsGiven p (OfKind (frame_at p (slice_index old))) n b) (sym is)
+                (line, past.stands, (to, x, reads, refl))),
+            past-way (set_number (frame_at p (slice_index old)) to n) new refl refl refl is,
+          )
 
 -- what was written over the words of a frame, where the control word was read from them
 pub written-next : (old read set new : List ℕ) (control : Control) → read ≡ old → control ≡ unpacked (slice_index read 0) → length set ≡ length old

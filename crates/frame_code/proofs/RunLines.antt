@@ -44,7 +44,9 @@ moved-there head control at read words new says same moved =
 -- words that differ in the control word alone have the same variables
 pub frame-changed : (vs : List Variable) (old new : List ℕ) → ((k : ℕ) → k ≢ 0 → slice_index new k ≡ slice_index old k)
     → kind_frame vs (slice_index new) ≡ record (kind_frame vs (slice_index old)) {
-      kind = control_kind (slice_index new 0); state = control_state (slice_index new 0); at = control_at (slice_index new 0);
+      kind = control_kind (slice_index new 0);
+      state = control_state (slice_index new 0);
+      at = control_at (slice_index new 0);
     }
 frame-changed vs old new same =
     let numbers : numbers_from (slice_index new) 1 vs ≡ numbers_from (slice_index old) 1 vs
@@ -111,8 +113,8 @@ module _ (p : Program) (head : ℕ) (kind : Kind) (state : State) (formed : IsWe
       let is_task : is_aggregate (slice_index old 0) ≡ false = ap is_aggregate was ∙ task in
       let some : 0 < length words = omega (arith, long, task-size p old frame is_task) in
       let first : slice_index new 0 ≡ control_word (control_kind (slice_index old 0)) (control_state (slice_index old 0)) at = ap (λ (l : List ℕ). slice_index l 0) moved
-          ∙ (get_or-set_same words 0 _ 0 some ∙ (ap (λ h. control_word (control_kind h) (control_state head) at) as_old
-              ∙ ap (λ h. control_word (control_kind (slice_index old 0)) (control_state h) at) (sym was))) in
+      ∙ (get_or-set_same words 0 _ 0 some ∙ (ap (λ h. control_word (control_kind h) (control_state head) at) as_old
+      ∙ ap (λ h. control_word (control_kind (slice_index old 0)) (control_state h) at) (sym was))) in
       let other : (k : ℕ) → k ≢ 0 → slice_index new k ≡ slice_index words k = λ k h. ap (λ (l : List ℕ). slice_index l k) moved ∙ get_or-set_other words 0 k _ 0 h in
       let as_long : length new ≡ length old = ap length moved ∙ (length-set words 0 _ ∙ long) in
       let line_there : at < length (code_at p (control_kind (slice_index old 0)) (control_state (slice_index old 0)))
@@ -127,7 +129,7 @@ module _ (p : Program) (head : ℕ) (kind : Kind) (state : State) (formed : IsWe
       = moved-at p old new state_at_old at frame is_task as_long first line_there (state-fits (slice_index old 0)) at_fits in
       let is_frame : frame_at p (slice_index new) ≡ standing kind words at
       = stopped-frame words new at (is_kind ∙ ap control_kind (sym as_old)) (is_state ∙ ap control_state (sym as_old)) is_at
-          (is_kind ∙ ap control_kind was) other in
+      (is_kind ∙ ap control_kind was) other in
       record {
         frame = moved-frame p old new state_at_old at frame is_task as_long first line_there (state-fits (slice_index old 0)) at_fits;
         is_task = moved-task p old new state_at_old at frame is_task as_long first line_there (state-fits (slice_index old 0)) at_fits;

@@ -92,8 +92,8 @@ task-again p words frame task =
     let counts : number_count vs + future_count vs ≡ length vs = both-counts vs in
     let variables : number_words vs (numbers_from w 1 vs) ++ future_words vs (futures_from w (1 + number_count vs) vs) ≡ words_from w 1 (length vs)
     = ap (λ ws. ws ++ future_words vs (futures_from w (1 + number_count vs) vs)) (numbers-again w 1 vs)
-        ∙ (ap (λ ws. words_from w 1 (number_count vs) ++ ws) (futures-again w (1 + number_count vs) vs)
-        ∙ (words-joined w 1 (number_count vs) (future_count vs) ∙ ap (words_from w 1) counts)) in
+    ∙ (ap (λ ws. words_from w 1 (number_count vs) ++ ws) (futures-again w (1 + number_count vs) vs)
+    ∙ (words-joined w 1 (number_count vs) (future_count vs) ∙ ap (words_from w 1) counts)) in
     ap (λ c. c ∷ (number_words vs (numbers_from w 1 vs) ++ future_words vs (futures_from w (1 + number_count vs) vs))) head
     ∙ (ap (λ ws. slice_index words 0 ∷ ws) variables ∙ words-behind words (length vs) size)
   where
@@ -119,7 +119,7 @@ group-again p words frame group =
     let marked : control_kind (slice_index words 0) ≡ 255 = eqb-true (control_kind (slice_index words 0)) 255 group in
     let head : control_word 255 (length (members_at (slice_index words))) (control_at (slice_index words 0)) ≡ slice_index words 0
     = ap (λ k. control_word k (length (members_at (slice_index words))) (control_at (slice_index words 0))) (sym marked)
-        ∙ (ap (λ m. control_word (control_kind (slice_index words 0)) m (control_at (slice_index words 0))) (members-known words known) ∙ word-of_parts (slice_index words 0) frame.control) in
+    ∙ (ap (λ m. control_word (control_kind (slice_index words 0)) m (control_at (slice_index words 0))) (members-known words known) ∙ word-of_parts (slice_index words 0) frame.control) in
     ap (λ c. c ∷ map suc (members_at (slice_index words))) head
     ∙ (ap (λ ws. slice_index words 0 ∷ ws) (members-again (slice_index words) 1 n (λ k low high. known.named k low (omega (arith, high)))) ∙ words-behind words n size)
 

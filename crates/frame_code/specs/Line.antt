@@ -1,17 +1,21 @@
 -- One line of a task over the words of its frame, as the calls inside this crate say it.
-use Rattle.std.specs.Prelude.{◌≡◌, ℕ, ◌+◌, ◌<◌, ◌≤◌, Some, None, List, [], ◌∷◌, length, slice_index}
+use Rattle.std.specs.Prelude.{◌≡◌, ℕ, ◌+◌, ◌<◌, ◌≤◌, Bool, Some, None, List, [], ◌∷◌, length, slice_index}
 use Rattle.task_syntax.specs.Places.{Each, IsNumberAt}
 use Rattle.task_syntax.specs.Form.{IsFormedOperand, IsFormedArgument}
 use Rattle.task_syntax.specs.declared.program.Variable.{Variable}
 use Rattle.task_syntax.specs.declared.program.Kind.{Kind}
 use Rattle.task_syntax.specs.declared.value.Value.{Value}
+use Rattle.task_syntax.specs.declared.instr.Operand.{Operand}
+use Rattle.task_syntax.specs.declared.instr.Relation.{Relation}
 use Rattle.task_syntax.specs.declared.instr.Instr.{Instr}
 use Rattle.task_syntax.specs.declared.instr.Instr.TheVariants.{Set, Math, If, Goto, Label, Cell, Rows, Spawn, All, Copy, Drop, Get, Again, Done}
 use Rattle.task_syntax.specs.declared.columns.Columns.{Columns}
-use Rattle.task_meaning.specs.Frame.{FrameOf, jump, set_number}
+use Rattle.task_meaning.specs.Frame.{FrameOf, jump, set_number, operand}
+use Rattle.task_meaning.specs.Arithmetic.{compares}
 use Rattle.task_meaning.specs.Acts.{Steps, act_of, steps_with}
 use Rattle.frame_code.specs.Words.{one_if_number, numbers_from, kind_frame}
 use Rattle.frame_code.specs.Stops.{stop_at, trapped}
+use Rattle.frame_code.specs.declared.act.Act.{Act}
 use Rattle.frame_code.specs.declared.act.Act.TheVariants as act
 use Rattle.frame_code.specs.declared.line.Step.{Step}
 use Rattle.frame_code.specs.declared.line.Step.TheVariants.{Goes, Traps, Asks}
@@ -69,3 +73,16 @@ abbrev pub IsPut : Kind → Value → ℕ → ℕ → List ℕ → Step → List
 IsPut kind v at to old (Goes next) new = (trapped v ≡ None) × (steps_with v (set_number (standing kind old at) to) ≡ Steps (standing kind new next))
 IsPut kind v at to old (Traps trap) new = (trapped v ≡ Some (act.Trap trap)) × (new ≡ old)
 IsPut kind v at to old Asks new = ⊥
+
+-- the second words have this number in the variable, and are else as the first ones
+pub record SetsNumber (kind : Kind) (to number : ℕ) (old new : List ℕ) : Type 0 where
+  pub set : (at : ℕ) → standing kind new (at + 1) ≡ set_number (standing kind old at) to number
+  pub head : slice_index new 0 ≡ slice_index old 0
+
+-- the numbers that two operands stand for compare so
+abbrev pub operands_compare : Kind → List ℕ → Relation → Operand → Operand → Bool
+operands_compare kind words relation left right = compares relation (operand (numbers_of kind words) left) (operand (numbers_of kind words) right)
+
+-- what a frame asks for at an instruction, whatever the columns are
+abbrev pub AsksFor : Kind → Instr → List ℕ → Act → Type 0
+AsksFor kind instr words asked = (c : Columns) (at : ℕ) → stop_at c instr (standing kind words at) ≡ Some asked

@@ -40,9 +40,9 @@ MayEnter p target (OfKind q) = StandsAt p (λ line. IsRespawn target line.instr)
 MayEnter p target (OfMembers members next) = (target ≡ 0) × (next < length members)
 
 -- the number is set in the variable of the read, and the frame stands at the next line
-abbrev pub IsGiven : Program → BodyOf ℕ → ℕ → BodyOf ℕ → Type 0
-IsGiven p (OfKind q) n (OfKind last) = StandsAt p (λ line. (to : ℕ) × (x : ℕ) × (line.instr ≡ Get to x) × (last ≡ set_number q to n)) q
-IsGiven p _ n _ = ⊥
+abbrev pub BodyIsGiven : Program → BodyOf ℕ → ℕ → BodyOf ℕ → Type 0
+BodyIsGiven p (OfKind q) n (OfKind last) = StandsAt p (λ line. (to : ℕ) × (x : ℕ) × (line.instr ≡ Get to x) × (last ≡ set_number q to n)) q
+BodyIsGiven p _ n _ = ⊥
 
 -- the next line
 abbrev pub passed_on : BodyOf ℕ → BodyOf ℕ

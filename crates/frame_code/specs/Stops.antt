@@ -73,7 +73,7 @@ pub data GoesTo {A : Type 0} (p : Program) (c : Columns) (q : FrameOf A) : Frame
   passes : {at next : FrameOf A} → GoesTo p c q at → Passes p c at next → GoesTo p c q next
 
 -- what `advance` does to a body: it goes on to the first line where it stops, and stands there; an aggregate stands as it is
-abbrev pub Advances : Program → Columns → BodyOf ℕ → Act → BodyOf ℕ → Type 0
-Advances p c (OfKind q) asked (OfKind last) = GoesTo p c q last × StopsAt p c last asked
-Advances p c (OfMembers members next) asked (OfMembers same at) = (same ≡ members) × (at ≡ next) × (member_act (slice_get members next) next ≡ asked)
-Advances p c _ asked _ = ⊥
+abbrev pub BodyAdvances : Program → Columns → BodyOf ℕ → Act → BodyOf ℕ → Type 0
+BodyAdvances p c (OfKind q) asked (OfKind last) = GoesTo p c q last × StopsAt p c last asked
+BodyAdvances p c (OfMembers members next) asked (OfMembers same at) = (same ≡ members) × (at ≡ next) × (member_act (slice_get members next) next ≡ asked)
+BodyAdvances p c _ asked _ = ⊥

@@ -18,8 +18,8 @@ BodyHasWay p (OfKind q) = HasWay p q
 BodyHasWay p (OfMembers members next) = Unit {0}
 
 -- where the first body has a way, the second has one
-abbrev pub KeepsWay : {A : Type 0} → Program → BodyOf A → BodyOf A → Type 0
-KeepsWay p body next = BodyHasWay p body → BodyHasWay p next
+abbrev pub BodyKeepsWay : {A : Type 0} → Program → BodyOf A → BodyOf A → Type 0
+BodyKeepsWay p body next = BodyHasWay p body → BodyHasWay p next
 
 -- the first frame of a call has a way
 abbrev pub EntriesHaveWays : Type 0

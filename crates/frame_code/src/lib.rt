@@ -1,8 +1,9 @@
 //! The frames of tasks as words, and what a task does next.
 //!
-//! `specs/Words.antt` says what the words of a frame say, `specs/Frames.antt` which words are a frame of a program,
-//! `specs/Stops.antt` where a task stops and what it asks for, and `specs/Moves.antt` how it goes on. `specs/Meant.antt` ties
-//! both to the meaning and to the rules of the checker.
+//! `specs/Words.antt` says what the words of a frame say, `specs/Frames.antt` which words are a
+//! frame of a program, `specs/Stops.antt` where a task stops and what it asks for, and
+//! `specs/Moves.antt` how it goes on. `specs/Meant.antt` ties both to the meaning and to the rules
+//! of the checker.
 #![tactic(auto)]
 
 mod act;

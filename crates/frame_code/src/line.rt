@@ -1,10 +1,8 @@
-ghost use Rattle.std.specs.Prelude.{◌≡◌, ◌+◌, ◌<◌, ℕ, length, slice_index};
+ghost use Rattle.std.specs.Prelude.{◌≡◌, ◌+◌, ◌<◌, slice_index};
 ghost use Rattle.task_syntax.specs.Places.{IsNumberAt};
 ghost use Rattle.task_syntax.specs.Form.{IsFormedOperand};
-ghost use Rattle.task_meaning.specs.Frame.{operand, set_number};
-ghost use Rattle.task_meaning.specs.Acts.{Steps, steps_with};
-ghost use Rattle.task_meaning.specs.Arithmetic.{compares};
-ghost use Rattle.frame_code.specs.Line.{IsLaidOut, FitsKind, IsPut, IsStep, numbers_of, standing};
+ghost use Rattle.task_meaning.specs.Frame.{operand};
+ghost use Rattle.frame_code.specs.Line.{IsLaidOut, FitsKind, SetsNumber, IsPut, IsStep, numbers_of, operands_compare};
 
 use crate::arithmetic::{compare, compute, number_or};
 use task_syntax::{Columns, Instr, Kind, MathOp, Operand, Relation, Trap, Value};
@@ -35,21 +33,13 @@ pub fn read(kind: &Kind, places: &[u8], words: &[u64], of: Operand) -> u64
 fn set(kind: &Kind, places: &[u8], words: &mut [u64], to: u16, number: u64)
     requires laid_out { IsLaidOut kind.now places.now words.old }
     requires variable { IsNumberAt kind.now to }
-    ensures numbers { (at : ℕ) → standing kind.now words.new (at + 1) ≡ set_number (standing kind.now words.old at) to number }
-    ensures head { slice_index words.new 0 ≡ slice_index words.old 0 }
+    ensures { SetsNumber kind.now to number words.old words.new }
 {
     words[places[to as usize] as usize] = number;
 }
 
 /// Sets a number variable and goes on. A trap ends the task.
-fn put(
-    kind: &Kind,
-    places: &[u8],
-    words: &mut [u64],
-    at: u16,
-    to: u16,
-    value: Value,
-) -> Step
+fn put(kind: &Kind, places: &[u8], words: &mut [u64], at: u16, to: u16, value: Value) -> Step
     requires laid_out { IsLaidOut kind.now places.now words.old }
     requires variable { IsNumberAt kind.now to }
     requires near { at + 1 < 65536 }
@@ -77,7 +67,7 @@ fn holds(
     requires laid_out { IsLaidOut kind.now places.now words.now }
     requires left { IsFormedOperand kind.now left }
     requires right { IsFormedOperand kind.now right }
-    ensures { result ≡ compares relation (operand (numbers_of kind.now words.now) left) (operand (numbers_of kind.now words.now) right) }
+    ensures { result ≡ operands_compare kind.now words.now relation left right }
 {
     compare(
         relation,

@@ -1,9 +1,8 @@
-ghost use Rattle.std.specs.Prelude.{◌≡◌, ◌≤◌, ℕ, Some, length};
+ghost use Rattle.std.specs.Prelude.{◌≡◌, ◌≤◌, length};
 ghost use Rattle.task_syntax.specs.Places.{Each};
 ghost use Rattle.task_syntax.specs.Form.{IsFormedArgument};
-ghost use Rattle.task_syntax.specs.declared.columns.Columns.{Columns as ColumnsOf};
-ghost use Rattle.frame_code.specs.Stops.{numbers_passed as passed_numbers, variables_passed as passed_variables, stop_at};
-ghost use Rattle.frame_code.specs.Line.{IsLaidOut, FitsKind, AlwaysStops, numbers_of, standing};
+ghost use Rattle.frame_code.specs.Stops.{numbers_passed as passed_numbers, variables_passed as passed_variables};
+ghost use Rattle.frame_code.specs.Line.{IsLaidOut, FitsKind, AlwaysStops, AsksFor, numbers_of};
 
 use crate::act::{Act, AllRequest, RespawnRequest, SpawnRequest};
 use crate::few::Few;
@@ -11,12 +10,7 @@ use crate::line::read;
 use task_syntax::{Argument, Instr, Kind};
 
 /// The numbers among the arguments of a spawn.
-fn numbers_passed(
-    kind: &Kind,
-    places: &[u8],
-    words: &[u64],
-    arguments: &[Argument],
-) -> Few<u64, 16>
+fn numbers_passed(kind: &Kind, places: &[u8], words: &[u64], arguments: &[Argument]) -> Few<u64, 16>
     requires laid_out { IsLaidOut kind.now places.now words.now }
     requires few { length arguments.now ≤ 16 }
     requires formed { Each arguments.now (IsFormedArgument kind.now) }
@@ -61,7 +55,7 @@ pub fn request(kind: &Kind, instr: &Instr, places: &[u8], words: &[u64]) -> Act
     requires laid_out { IsLaidOut kind.now places.now words.now }
     requires fits { FitsKind kind.now instr.now }
     requires stops { AlwaysStops instr.now }
-    ensures { (c : ColumnsOf) (at : ℕ) → stop_at c instr.now (standing kind.now words.now at) ≡ Some result }
+    ensures { AsksFor kind.now instr.now words.now result }
 {
     match instr {
         Instr::Spawn {

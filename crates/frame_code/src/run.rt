@@ -4,11 +4,9 @@ ghost use Rattle.task_syntax.specs.Valid.{IsValid};
 ghost use Rattle.frame_code.specs.Control.{is_aggregate};
 ghost use Rattle.frame_code.specs.Words.{body_of};
 ghost use Rattle.frame_code.specs.Frames.{IsFrame};
-ghost use Rattle.frame_code.specs.Names.{names_of};
 ghost use Rattle.frame_code.specs.Members.{member_act};
-ghost use Rattle.frame_code.specs.Stops.{Advances};
-ghost use Rattle.frame_code.specs.Meant.{KeepsMeaning, AreHeld};
-ghost use Rattle.frame_code.specs.Ways.{KeepsWay};
+ghost use Rattle.frame_code.specs.Meant.{AreHeld};
+ghost use Rattle.frame_code.specs.Calls.{Advances, Means, NamesStay, KeepsWay};
 ghost use Rattle.frame_code.specs.Run.{IsRun};
 
 use crate::act::{Act, RespawnRequest};
@@ -49,7 +47,8 @@ fn run(checked: &Checked, columns: &Columns, words: &mut [u64]) -> Act
     }
 }
 
-/// What an aggregate asks for: another activation behind its next member, or, where all were waited for, to be done with 0.
+/// What an aggregate asks for: another activation behind its next member, or, where all were
+/// waited for, to be done with 0.
 fn next_activation(members: u16, next: u16) -> Act
     ensures waits { next < members → (member : ℕ) → member_act (Some member) next ≡ result }
     ensures done { members ≤ next → member_act None next ≡ result }
@@ -65,16 +64,17 @@ fn next_activation(members: u16, next: u16) -> Act
     }
 }
 
-/// Runs a task from where its frame stands to the first line where it cannot go on by itself, and tells what it asks for
-/// there. The frame then stands at that line. An aggregate's frame stays as it is.
+/// Runs a task from where its frame stands to the first line where it cannot go on by itself, and
+/// tells what it asks for there. The frame then stands at that line. An aggregate's frame stays as
+/// it is.
 pub fn advance(checked: &Checked, columns: &Columns, frame: &mut Frame) -> Act
     requires { IsFrame checked.now frame.old.items }
     ensures frame { IsFrame checked.now frame.new.items }
-    ensures acts { Advances checked.now columns.now (body_of checked.now frame.old.items) result (body_of checked.now frame.new.items) }
-    ensures meaning { KeepsMeaning checked.now columns.now (body_of checked.now frame.old.items) result (body_of checked.now frame.new.items) }
+    ensures acts { Advances checked.now columns.now frame.old.items result frame.new.items }
+    ensures meaning { Means checked.now columns.now frame.old.items result frame.new.items }
     ensures held { AreHeld checked.now result (body_of checked.now frame.new.items) }
-    ensures names { names_of (body_of checked.now frame.new.items) ≡ names_of (body_of checked.now frame.old.items) }
-    ensures way { KeepsWay checked.now (body_of checked.now frame.old.items) (body_of checked.now frame.new.items) }
+    ensures names { NamesStay checked.now frame.old.items frame.new.items }
+    ensures way { KeepsWay checked.now frame.old.items frame.new.items }
 {
     let words = frame.as_mut_slice();
     let control = Control::unpack(words[0]);

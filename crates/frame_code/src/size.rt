@@ -5,7 +5,8 @@ ghost use Rattle.task_meaning.specs.Frame.{variables_of};
 use crate::lookup::kind_at;
 use task_syntax::Checked;
 
-/// The smallest class whose blocks have so many words: 8 in class 0, and twice as many in each next class.
+/// The smallest class whose blocks have so many words: 8 in class 0, and twice as many in each
+/// next class.
 fn class_for(words: usize) -> u8
     ensures { result ≡ class_of_words words }
 {

@@ -4,15 +4,15 @@ ghost use Rattle.frame_code.specs.Run.{unpacked, IsMovedTo};
 
 use arrayvec::ArrayVec;
 
-/// The words of a frame: the control word, a word for each number variable in order, and then one for each future variable
-/// in order; of an aggregate the control word and a word for each member.
+/// The words of a frame: the control word, a word for each number variable in order, and then one
+/// for each future variable in order; of an aggregate the control word and a word for each member.
 pub type Frame = ArrayVec<u64, 64>;
 
 /// The kind that marks an aggregate.
 pub const AGGREGATE: u16 = 255;
 
-/// The control word, unpacked: a kind, a state and a line, or the mark of an aggregate, how many members it has, and the
-/// position of the next one.
+/// The control word, unpacked: a kind, a state and a line, or the mark of an aggregate, how many
+/// members it has, and the position of the next one.
 #[derive(Clone, Copy)]
 pub struct Control {
     pub kind: u16,
@@ -43,7 +43,8 @@ impl Control {
     }
 }
 
-/// Makes a frame stand at a line of a state; of an aggregate these are how many members it has, and the next one.
+/// Makes a frame stand at a line of a state; of an aggregate these are how many members it has,
+/// and the next one.
 pub fn stand(words: &mut [u64], state: u16, at: u16)
     requires some { 0 < length words.old }
     requires state { state < 256 }

@@ -7,8 +7,8 @@ bounds-places-to c = laid-known c.args.kind.now c.args.places.now c.args.words.n
 pub bounds-words-places : goal.bounds-words-places
 bounds-words-places c = laid-within c.args.kind.now c.args.places.now c.args.words.now c.requires.laid_out c.args.to c.requires.variable
 
-pub returns-clause-numbers : goal.returns-clause-numbers
-returns-clause-numbers c at = laid-sets c.args.kind.now c.args.places.now c.args.words.now c.requires.laid_out c.args.to c.requires.variable c.args.number at
-
-pub returns-clause-head : goal.returns-clause-head
-returns-clause-head c = laid-head c.args.kind.now c.args.places.now c.args.words.now c.requires.laid_out c.args.to c.requires.variable c.args.number
+pub returns : goal.returns
+returns c = record {
+  set = laid-sets c.args.kind.now c.args.places.now c.args.words.now c.requires.laid_out c.args.to c.requires.variable c.args.number;
+  head = laid-head c.args.kind.now c.args.places.now c.args.words.now c.requires.laid_out c.args.to c.requires.variable c.args.number;
+}

@@ -17,7 +17,7 @@ number_place-place-requires c =
     let to = c.variable_read-to.result in
     let gives = c.variable_read-to.ensures in
     let of = of-read p c.program.result.now old read c.unpack-control.result c.kind_at-kind.result.now c.state_at.result.now line c.program.ensures.same
-        c.as_mut_slice-words.ensures.value c.unpack-control.ensures c.kind_at-kind.ensures c.state_at.ensures c.line_at-line.ensures in
+    c.as_mut_slice-words.ensures.value c.unpack-control.ensures c.kind_at-kind.ensures c.state_at.ensures c.line_at-line.ensures in
     let past = past-read p old line to gives.0 (gives-past p old c.requires.read).1.task of gives.1 in
     let number = read-number p old line c.program.ensures.formed past of to gives.0 0 gives.1 c.requires.frame in
     let within = sort-within c.kind_at-kind.result.now.variables to Number number in
@@ -32,7 +32,7 @@ offset_bounds-words-place c =
     let to = c.variable_read-to.result in
     let gives = c.variable_read-to.ensures in
     let of = of-read p c.program.result.now old read c.unpack-control.result c.kind_at-kind.result.now c.state_at.result.now line c.program.ensures.same
-        c.as_mut_slice-words.ensures.value c.unpack-control.ensures c.kind_at-kind.ensures c.state_at.ensures c.line_at-line.ensures in
+    c.as_mut_slice-words.ensures.value c.unpack-control.ensures c.kind_at-kind.ensures c.state_at.ensures c.line_at-line.ensures in
     let past = past-read p old line to gives.0 (gives-past p old c.requires.read).1.task of gives.1 in
     let place : c.number_place-place.result ≡ number_place c.kind_at-kind.result.now.variables to
     = c.number_place-place.ensures ∙ ap (λ vs. number_place vs to) c.as_slice.ensures in
@@ -48,7 +48,7 @@ bounds-words-place c =
     let to = c.variable_read-to.result in
     let gives = c.variable_read-to.ensures in
     let of = of-read p c.program.result.now old read c.unpack-control.result c.kind_at-kind.result.now c.state_at.result.now line c.program.ensures.same
-        c.as_mut_slice-words.ensures.value c.unpack-control.ensures c.kind_at-kind.ensures c.state_at.ensures c.line_at-line.ensures in
+    c.as_mut_slice-words.ensures.value c.unpack-control.ensures c.kind_at-kind.ensures c.state_at.ensures c.line_at-line.ensures in
     let past = past-read p old line to gives.0 (gives-past p old c.requires.read).1.task of gives.1 in
     let place : c.number_place-place.result ≡ number_place c.kind_at-kind.result.now.variables to
     = c.number_place-place.ensures ∙ ap (λ vs. number_place vs to) c.as_slice.ensures in
@@ -64,7 +64,7 @@ stand-requires-clause-at c =
     let to = c.variable_read-to.result in
     let gives = c.variable_read-to.ensures in
     let of = of-read p c.program.result.now old read c.unpack-control.result c.kind_at-kind.result.now c.state_at.result.now line c.program.ensures.same
-        c.as_mut_slice-words.ensures.value c.unpack-control.ensures c.kind_at-kind.ensures c.state_at.ensures c.line_at-line.ensures in
+    c.as_mut_slice-words.ensures.value c.unpack-control.ensures c.kind_at-kind.ensures c.state_at.ensures c.line_at-line.ensures in
     let past = past-read p old line to gives.0 (gives-past p old c.requires.read).1.task of gives.1 in
     let fits = next-fits p old line c.program.ensures.formed past of in
     let same : control_at (slice_index read 0) ≡ control_at (slice_index old 0) = ap (λ l. control_at (slice_index l 0)) c.as_mut_slice-words.ensures.value in
@@ -80,7 +80,7 @@ returns-clause-frame c =
     let to = c.variable_read-to.result in
     let gives = c.variable_read-to.ensures in
     let of = of-read p c.program.result.now old read c.unpack-control.result c.kind_at-kind.result.now c.state_at.result.now line c.program.ensures.same
-        c.as_mut_slice-words.ensures.value c.unpack-control.ensures c.kind_at-kind.ensures c.state_at.ensures c.line_at-line.ensures in
+    c.as_mut_slice-words.ensures.value c.unpack-control.ensures c.kind_at-kind.ensures c.state_at.ensures c.line_at-line.ensures in
     let past = past-read p old line to gives.0 (gives-past p old c.requires.read).1.task of gives.1 in
     let place : c.number_place-place.result ≡ number_place c.kind_at-kind.result.now.variables to
     = c.number_place-place.ensures ∙ ap (λ vs. number_place vs to) c.as_slice.ensures in
@@ -100,7 +100,7 @@ returns-clause-given c =
     let to = c.variable_read-to.result in
     let gives = c.variable_read-to.ensures in
     let of = of-read p c.program.result.now old read c.unpack-control.result c.kind_at-kind.result.now c.state_at.result.now line c.program.ensures.same
-        c.as_mut_slice-words.ensures.value c.unpack-control.ensures c.kind_at-kind.ensures c.state_at.ensures c.line_at-line.ensures in
+    c.as_mut_slice-words.ensures.value c.unpack-control.ensures c.kind_at-kind.ensures c.state_at.ensures c.line_at-line.ensures in
     let past = past-read p old line to gives.0 (gives-past p old c.requires.read).1.task of gives.1 in
     let place : c.number_place-place.result ≡ number_place c.kind_at-kind.result.now.variables to
     = c.number_place-place.ensures ∙ ap (λ vs. number_place vs to) c.as_slice.ensures in
@@ -120,7 +120,7 @@ returns-clause-way c =
     let to = c.variable_read-to.result in
     let gives = c.variable_read-to.ensures in
     let of = of-read p c.program.result.now old read c.unpack-control.result c.kind_at-kind.result.now c.state_at.result.now line c.program.ensures.same
-        c.as_mut_slice-words.ensures.value c.unpack-control.ensures c.kind_at-kind.ensures c.state_at.ensures c.line_at-line.ensures in
+    c.as_mut_slice-words.ensures.value c.unpack-control.ensures c.kind_at-kind.ensures c.state_at.ensures c.line_at-line.ensures in
     let past = past-read p old line to gives.0 (gives-past p old c.requires.read).1.task of gives.1 in
     let place : c.number_place-place.result ≡ number_place c.kind_at-kind.result.now.variables to
     = c.number_place-place.ensures ∙ ap (λ vs. number_place vs to) c.as_slice.ensures in

@@ -20,7 +20,7 @@ lines-init c =
     = stands-in p c.program.result.now (slice_index words 0) control kind state c.program.ensures.same c.unpack-control.ensures c.kind_at-kind.ensures c.state_at-state.ensures in
     let is_at : control_at (slice_index words 0) ≡ control.at = ap (λ (x : Control). x.at) (sym c.unpack-control.ensures) in
     let line : control_at (slice_index words 0) < length state.code = subst (λ ls. control_at (slice_index words 0) < length ls)
-        (code-here p (slice_index words 0) kind state c.program.ensures.formed stands) (frame-line p words c.requires.frame c.requires.task).line in
+    (code-here p (slice_index words 0) kind state c.program.ensures.formed stands) (frame-line p words c.requires.frame c.requires.task).line in
     record {
       of = stands;
       goes = subst (GoesTo p c.args.columns.now (frame_at p (slice_index words)))
@@ -36,12 +36,12 @@ carry_out-requires-clause-fits c = fits-here c.args.checked.now (slice_index c.a
 pub carry_out-requires-clause-near : goal.carry_out-requires-clause-near
 carry_out-requires-clause-near c =
     let h = near-here c.args.checked.now (slice_index c.args.words.now 0) c.kind_at-kind.result.now c.state_at-state.result.now c.program.ensures.formed c.lines.invariant.of
-        c.lines.at c.lines.invariant.stands in omega arith
+    c.lines.at c.lines.invariant.stands in omega arith
 
 pub lines-smaller : goal.lines-smaller
 lines-smaller c =
     let h = next-here c.args.checked.now (slice_index c.args.words.now 0) c.kind_at-kind.result.now c.state_at-state.result.now c.program.ensures.formed c.lines.invariant.of c.args.columns.now
-        c.lines.words c.carry_out.new.words c.lines.at c.in-Goes.next c.line_at-line.result.now c.line_at-line.ensures c.in-Goes.ensures.step.0 c.in-Goes.ensures.step.1 in omega arith
+    c.lines.words c.carry_out.new.words c.lines.at c.in-Goes.next c.line_at-line.result.now c.line_at-line.ensures c.in-Goes.ensures.step.0 c.in-Goes.ensures.step.1 in omega arith
 
 pub lines-preserved : goal.lines-preserved
 lines-preserved c =
@@ -62,12 +62,12 @@ lines-preserved c =
 pub stand-requires-clause-at : goal.stand-requires-clause-at
 stand-requires-clause-at c =
     let h = near-here c.args.checked.now (slice_index c.args.words.now 0) c.kind_at-kind.result.now c.state_at-state.result.now c.program.ensures.formed c.lines.invariant.of
-        c.lines.at c.lines.invariant.stands in omega arith
+    c.lines.at c.lines.invariant.stands in omega arith
 
 pub stand-requires-in-Asks-clause-at : goal.stand-requires-in-Asks-clause-at
 stand-requires-in-Asks-clause-at c =
     let h = near-here c.args.checked.now (slice_index c.args.words.now 0) c.kind_at-kind.result.now c.state_at-state.result.now c.program.ensures.formed c.lines.invariant.of
-        c.lines.at c.lines.invariant.stands in omega arith
+    c.lines.at c.lines.invariant.stands in omega arith
 
 pub request-asked-requires-clause-fits : goal.request-asked-requires-clause-fits
 request-asked-requires-clause-fits c = fits-here c.args.checked.now (slice_index c.args.words.now 0) c.kind_at-kind.result.now c.state_at-state.result.now c.program.ensures.formed c.lines.invariant.of
@@ -85,4 +85,4 @@ returns-in-Asks-clause-run c = run-here c.args.checked.now (slice_index c.args.w
     c.lines.auto.words c.lines.invariant.head (moved-there (slice_index c.args.words.now 0) c.unpack-control.result c.lines.at c.carry_out.new.words c.lines.words c.stand-in-Asks.new.words c.unpack-control.ensures c.in-Asks.ensures.step.1 c.stand-in-Asks.ensures)
     c.line_at-line.ensures c.lines.invariant.goes
     (subst (λ ws. stop_at c.args.columns.now c.line_at-line.result.now.instr (standing c.kind_at-kind.result.now ws c.lines.at) ≡ Some c.request-asked.result)
-        c.in-Asks.ensures.step.1 (c.request-asked.ensures c.args.columns.now c.lines.at))
+    c.in-Asks.ensures.step.1 (c.request-asked.ensures c.args.columns.now c.lines.at))
