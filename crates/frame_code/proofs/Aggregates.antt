@@ -10,10 +10,12 @@ use Rattle.frame_code.specs.Words.{BodyOf, OfKind, OfMembers, unit_named, member
 use Rattle.frame_code.specs.Frames.{IsAggregateFrame}
 use Rattle.frame_code.specs.Members.{member_act}
 use Rattle.frame_code.specs.Stops.{BodyAdvances}
+use Rattle.frame_code.specs.Moves.{BodyAllows}
 use Rattle.frame_code.specs.Meant.{KeepsMeaning}
 use Rattle.frame_code.specs.Run.{unpacked}
 use Rattle.frame_code.specs.declared.act.Act.{Act}
 use Rattle.frame_code.specs.declared.words.Control.{Control}
+use Rattle.frame_code.proofs.AllowedMoves.{member-allows}
 use Rattle.frame_code.proofs.MembersInTurn.{members-follow, length-members}
 
 take-front : (ws ys : List ℕ) → take (length ws) (ws ++ ys) ≡ ws
@@ -86,3 +88,10 @@ aggregate-meaning p c old new asked group same act =
     let next : ℕ = control_at (slice_index old 0) in
     subst (λ b. KeepsMeaning p c b asked (body_of p new)) (sym is_old) (subst (λ b. KeepsMeaning p c (OfMembers members next) asked b) (sym is_new)
     (subst (λ a. KeepsMeaning p c (OfMembers members next) a (OfMembers members next)) act (λ meant. members-follow meant members next)))
+
+pub aggregate-allows : (p : Program) (old new : List ℕ) (asked : Act) → is_aggregate (slice_index old 0) ≡ true → new ≡ old
+    → member_act (slice_get (members_at (slice_index old)) (control_at (slice_index old 0))) (control_at (slice_index old 0)) ≡ asked
+    → BodyAllows p asked (body_of p new)
+aggregate-allows p old new asked group same act =
+    let is_new = ap (body_of p) same ∙ body-of_members p old group in
+    subst (BodyAllows p asked) (sym is_new) (member-allows p (members_at (slice_index old)) (control_at (slice_index old 0)) asked act)

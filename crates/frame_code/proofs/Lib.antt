@@ -17,3 +17,4 @@ pub mod EnteredFrames
 pub mod NameChanges
 pub mod WordsOfBody
 pub mod WayLaws
+pub mod AllowedMoves

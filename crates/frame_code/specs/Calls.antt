@@ -5,7 +5,7 @@ use Rattle.task_syntax.specs.declared.columns.Columns.{Columns}
 use Rattle.frame_code.specs.Words.{body_of}
 use Rattle.frame_code.specs.Names.{names_of}
 use Rattle.frame_code.specs.Stops.{BodyAdvances}
-use Rattle.frame_code.specs.Moves.{BodyIsGiven, passed_on, entered}
+use Rattle.frame_code.specs.Moves.{BodyIsGiven, BodyAllows, passed_on, entered}
 use Rattle.frame_code.specs.Meant.{KeepsMeaning}
 use Rattle.frame_code.specs.Ways.{BodyKeepsWay}
 use Rattle.frame_code.specs.declared.act.Act.{Act}
@@ -25,6 +25,10 @@ NamesStay p old new = names_of (body_of p new) ≡ names_of (body_of p old)
 -- where there was a way to its line, there is one again
 abbrev pub KeepsWay : Program → List ℕ → List ℕ → Type 0
 KeepsWay p old new = BodyKeepsWay p (body_of p old) (body_of p new)
+
+-- what the frame may do once it got what it asks for
+abbrev pub Allows : Program → Act → List ℕ → Type 0
+Allows p asked words = BodyAllows p asked (body_of p words)
 
 -- the number was set in the variable of the read, and the frame stands at the next line
 abbrev pub IsGiven : Program → List ℕ → ℕ → List ℕ → Type 0

@@ -7,6 +7,8 @@ use Rattle.task_syntax.specs.declared.program.Program.{Program}
 use Rattle.task_meaning.specs.Frame.{FrameOf, go_on, set_number}
 use Rattle.frame_code.specs.Words.{BodyOf, OfKind, OfMembers}
 use Rattle.frame_code.specs.Stops.{StandsAt}
+use Rattle.frame_code.specs.declared.act.Act.{Act}
+use Rattle.frame_code.specs.declared.act.Act.TheVariants as act
 
 -- the instruction is a read; a spawn, an aggregate, a copy or a drop; a respawn to this state
 abbrev pub IsRead : Instr → Type 0
@@ -53,3 +55,13 @@ passed_on (OfMembers members next) = OfMembers members next
 abbrev pub entered : ℕ → BodyOf ℕ → BodyOf ℕ
 entered target (OfKind q) = OfKind (record q { state = target; at = 0 })
 entered target (OfMembers members next) = OfMembers members (next + 1)
+
+-- what a body that asks for this may do once it got it
+abbrev pub BodyAllows : Program → Act → BodyOf ℕ → Type 0
+BodyAllows p (act.Spawn request) body = MayPass p body
+BodyAllows p (act.All request) body = MayPass p body
+BodyAllows p (act.Copy to source) body = MayPass p body
+BodyAllows p (act.Drop future) body = MayPass p body
+BodyAllows p (act.NeedsValue future) body = MayGive p body
+BodyAllows p (act.Again request) body = MayEnter p request.target body
+BodyAllows p _ body = Unit {0}

@@ -6,7 +6,7 @@ ghost use Rattle.frame_code.specs.Words.{body_of};
 ghost use Rattle.frame_code.specs.Frames.{IsFrame};
 ghost use Rattle.frame_code.specs.Members.{member_act};
 ghost use Rattle.frame_code.specs.Meant.{AreHeld};
-ghost use Rattle.frame_code.specs.Calls.{Advances, Means, NamesStay, KeepsWay};
+ghost use Rattle.frame_code.specs.Calls.{Advances, Means, Allows, NamesStay, KeepsWay};
 ghost use Rattle.frame_code.specs.Run.{IsRun};
 
 use crate::act::{Act, RespawnRequest};
@@ -73,6 +73,7 @@ pub fn advance(checked: &Checked, columns: &Columns, frame: &mut Frame) -> Act
     ensures acts { Advances checked.now columns.now frame.old.items result frame.new.items }
     ensures meaning { Means checked.now columns.now frame.old.items result frame.new.items }
     ensures held { AreHeld checked.now result (body_of checked.now frame.new.items) }
+    ensures next { Allows checked.now result frame.new.items }
     ensures names { NamesStay checked.now frame.old.items frame.new.items }
     ensures way { KeepsWay checked.now frame.old.items frame.new.items }
 {

@@ -1,7 +1,7 @@
 use Rattle.std.proofs.Common.{ℕ, length, slice_index, ◌∙◌, ap, sym}
 use Rattle.frame_code.specs.Run.{unpacked}
 use Rattle.frame_code.proofs.ControlWords.{frame-members}
-use Rattle.frame_code.proofs.Aggregates.{refill-same, is-group, member-asked, aggregate-acts, aggregate-meaning}
+use Rattle.frame_code.proofs.Aggregates.{refill-same, is-group, member-asked, aggregate-acts, aggregate-meaning, aggregate-allows}
 use Rattle.frame_code.proofs.AdvanceClauses.{run-advances}
 use Rattle.frame_code.proofs.run.advance.Goals as goal
 
@@ -25,6 +25,16 @@ returns-then-control-eq-AGGREGATE-clause-meaning c =
     aggregate-meaning c.args.checked.now c.args.columns.now old _ c.next_activation.result group (refill-same old c.as_mut_slice-words.result.now (ap length same) ∙ same)
     (member-asked old control c.next_activation.result (frame-members c.args.checked.now old c.requires group) says c.next_activation.ensures.waits c.next_activation.ensures.done)
 
+pub returns-then-control-eq-AGGREGATE-clause-next : goal.returns-then-control-eq-AGGREGATE-clause-next
+returns-then-control-eq-AGGREGATE-clause-next c =
+    let old = c.args.frame.now.items in
+    let same = c.as_mut_slice-words.ensures.value in
+    let control = c.unpack-control.result in
+    let says = c.unpack-control.ensures ∙ ap (λ l. unpacked (slice_index l 0)) same in
+    let group = is-group old control says c.if-control-eq-AGGREGATE.true in
+    aggregate-allows c.args.checked.now old _ c.next_activation.result group (refill-same old c.as_mut_slice-words.result.now (ap length same) ∙ same)
+    (member-asked old control c.next_activation.result (frame-members c.args.checked.now old c.requires group) says c.next_activation.ensures.waits c.next_activation.ensures.done)
+
 pub returns-else-control-eq-AGGREGATE-clause-meaning : goal.returns-else-control-eq-AGGREGATE-clause-meaning
 returns-else-control-eq-AGGREGATE-clause-meaning c = (run-advances c.args.checked.now c.args.columns.now c.args.frame.now.items c.as_mut_slice-words.result.now c.run.new.words
     c.unpack-control.result c.run.result c.run.ensures.formed c.run.ensures.valid c.as_mut_slice-words.ensures.value c.run.auto.words c.unpack-control.ensures c.if-control-eq-AGGREGATE.false
@@ -34,6 +44,11 @@ pub returns-else-control-eq-AGGREGATE-clause-held : goal.returns-else-control-eq
 returns-else-control-eq-AGGREGATE-clause-held c = (run-advances c.args.checked.now c.args.columns.now c.args.frame.now.items c.as_mut_slice-words.result.now c.run.new.words
     c.unpack-control.result c.run.result c.run.ensures.formed c.run.ensures.valid c.as_mut_slice-words.ensures.value c.run.auto.words c.unpack-control.ensures c.if-control-eq-AGGREGATE.false
     c.run.ensures.run).held
+
+pub returns-else-control-eq-AGGREGATE-clause-next : goal.returns-else-control-eq-AGGREGATE-clause-next
+returns-else-control-eq-AGGREGATE-clause-next c = (run-advances c.args.checked.now c.args.columns.now c.args.frame.now.items c.as_mut_slice-words.result.now c.run.new.words
+    c.unpack-control.result c.run.result c.run.ensures.formed c.run.ensures.valid c.as_mut_slice-words.ensures.value c.run.auto.words c.unpack-control.ensures c.if-control-eq-AGGREGATE.false
+    c.run.ensures.run).next
 
 pub returns-else-control-eq-AGGREGATE-clause-names : goal.returns-else-control-eq-AGGREGATE-clause-names
 returns-else-control-eq-AGGREGATE-clause-names c = (run-advances c.args.checked.now c.args.columns.now c.args.frame.now.items c.as_mut_slice-words.result.now c.run.new.words
