@@ -29,3 +29,4 @@ pub mod OutcomesKept
 pub mod CodeFacts
 pub mod NullsKept
 pub mod RankKept
+pub mod CausesKept

@@ -74,7 +74,7 @@ module _ (r : Run) (hand : List ℕ) (now : NumbersHeld r hand) where
           (cases_eq v t)
 
 -- a root without a task
-slice_snoc : {A : Type 0} (xs : List A) (x y : A) (i : ℕ) → slice_get (xs ++ x ∷ []) i ≡ Some y → (slice_get xs i ≡ Some y) ⊎ ((i ≡ length xs) × (x ≡ y))
+pub slice_snoc : {A : Type 0} (xs : List A) (x y : A) (i : ℕ) → slice_get (xs ++ x ∷ []) i ≡ Some y → (slice_get xs i ≡ Some y) ⊎ ((i ≡ length xs) × (x ≡ y))
 slice_snoc [] x y zero e = inr (refl, same_Some x y e)
 slice_snoc [] x y (suc i) e = absurd (none-some y e)
 slice_snoc (z ∷ xs) x y zero e = inl e
