@@ -30,3 +30,4 @@ pub mod CodeFacts
 pub mod NullsKept
 pub mod RankKept
 pub mod CausesKept
+pub mod RootsKept
