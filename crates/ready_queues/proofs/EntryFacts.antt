@@ -1,5 +1,5 @@
 -- Entries and the items that stand for them.
-use Rattle.std.proofs.Common.{◌≡◌, ◌≢◌, ℕ, ◌<◌, length, map, List, [], ◌∷◌, ◌++◌, arith, ap, refl, suc, Option, Some, None}
+use Rattle.std.proofs.Common.{◌≡◌, ◌≢◌, length, List, [], ◌∷◌, ◌++◌, arith, ap, refl, suc, Option, Some, None}
 use Rattle.std.specs.Prelude.{IfNone}
 use Rattle.task_syntax.specs.declared.value.Priority.{Priority}
 use Rattle.ready_queues.specs.declared.entry.Entry.{Entry}

@@ -1,14 +1,14 @@
 -- What a call under the lock tells follows from what the locked queues were and became.
-use Rattle.std.proofs.Common.{◌≡◌, ◌≢◌, ℕ, ◌<◌, ◌≤◌, length, map, List, [], ◌∷◌, ◌++◌, Option, Some, None, arith, ap, sym, refl, ◌∙◌, subst}
+use Rattle.std.proofs.Common.{◌≡◌, ℕ, ◌<◌, [], Option, Some, None, arith, ap, sym, refl, ◌∙◌}
 use Rattle.std.specs.Prelude.{IsSomeAnd, ⊤}
 use Rattle.task_syntax.specs.declared.value.Priority.{Priority}
 use Rattle.ready_queues.specs.declared.entry.Entry.{Entry}
 use Rattle.ready_queues.specs.declared.mutex_ready.Queues.{Queues}
 use Rattle.ready_queues.specs.declared.mutex_ready.Look.{Look}
 use Rattle.ready_queues.specs.declared.mutex_ready.MutexPass.{MutexPass}
-use Rattle.ready_queues.specs.Entries.{entries_at, entry_at, item_of, rank, IsAbove}
-use Rattle.ready_queues.specs.Moments.{Moment, WasPushed, WasTaken, WasFull, WasEmpty, Rose, InCall, EachWasEmpty}
-use Rattle.ready_queues.specs.Held.{held, room, Gains, Loses, Refuses, IsDry, IsSame, Notes, IsLookAt, IsMomentOf, TellsHeld}
+use Rattle.ready_queues.specs.Entries.{entries_at, IsAbove}
+use Rattle.ready_queues.specs.Moments.{Moment, WasPushed, WasTaken, WasFull, WasEmpty, InCall, EachWasEmpty}
+use Rattle.ready_queues.specs.Held.{held, room, Gains, Loses, Refuses, IsDry, Notes, IsLookAt, IsMomentOf, TellsHeld}
 use Rattle.ready_queues.proofs.EntryFacts.{entries_at-snoc, length-entries_at, above_differs}
 
 module _ (pass now : MutexPass) (old new : Queues) (notes : Notes pass now old new) where

@@ -1,2 +1,4 @@
+pub mod AccountFacts
 pub mod EntryFacts
 pub mod HeldFacts
+pub mod SightFacts

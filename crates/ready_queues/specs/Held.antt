@@ -1,5 +1,5 @@
 -- What three queues under a lock hold, and what a pass of such a store tells.
-use Rattle.std.specs.Prelude.{◌≡◌, ◌≢◌, ℕ, ◌+◌, ◌-◌, ◌^◌, min, List, [], ◌∷◌, ◌++◌, length, Option, Some, None, IsSomeAnd}
+use Rattle.std.specs.Prelude.{◌≡◌, ◌≢◌, ℕ, ◌+◌, ◌-◌, ◌^◌, min, List, [], ◌∷◌, ◌++◌, length, None, IsSomeAnd}
 use Rattle.std.specs.VecDeque.{deque_capacity}
 use Rattle.task_syntax.specs.declared.value.Priority.{Priority}
 use Rattle.task_syntax.specs.declared.value.Priority.TheVariants.{High, Regular, Low}

@@ -1,5 +1,5 @@
 -- What a pass of the store under a lock tells.
-use Rattle.std.proofs.Common.{◌≡◌, ℕ, ◌≤◌, length, List, Option, Some, None, arith, ap, sym, ◌∙◌, subst}
+use Rattle.std.proofs.Common.{◌≡◌, ◌≤◌, length, Option, Some, None, arith, ap, sym, ◌∙◌}
 use Rattle.ready_queues.specs.declared.mutex_ready.MutexReady.{MutexReady}
 use Rattle.ready_queues.specs.declared.mutex_ready.MutexPass.{MutexPass}
 use Rattle.ready_queues.specs.declared.mutex_ready.Look.{Look}

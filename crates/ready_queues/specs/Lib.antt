@@ -1,4 +1,7 @@
+pub mod Account
 pub mod Entries
 pub mod Held
-pub mod Moments
 pub mod HeldLaws
+pub mod Moments
+pub mod SightLaws
+pub mod Sights

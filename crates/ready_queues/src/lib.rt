@@ -1,14 +1,18 @@
 //! What is ready to run, in a store that workers share: three priorities, first in first out in each.
 //!
 //! `ReadyStore` is what a store promises. `MutexReady` keeps its queues under a lock, `RuledReady` has none. What a caller
-//! learns of a shared queue it learns of single moments: `specs/Moments.antt` says what a moment tells, `specs/Sights.antt`
-//! what a pass of `RuledReady` has seen, and `specs/Account.antt` the rule that its queues keep.
+//! learns of a shared queue it learns of single moments: `specs/Moments.antt` says what a moment tells, `specs/Held.antt`
+//! what the queues under a lock become, `specs/Account.antt` which rule the queues without a lock keep, and
+//! `specs/Sights.antt` what their passes tell.
 #![tactic(auto)]
 
+mod account;
 mod entry;
 mod mutex_ready;
+mod ruled_ready;
 mod store;
 
 pub use entry::Entry;
 pub use mutex_ready::{MutexPass, MutexReady};
+pub use ruled_ready::{RuledPass, RuledReady, sole_knows};
 pub use store::ReadyStore;

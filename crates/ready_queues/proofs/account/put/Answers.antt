@@ -1,0 +1,5 @@
+use Rattle.ready_queues.proofs.AccountFacts.{pushes, learns}
+use Rattle.ready_queues.proofs.account.put.Goals as goal
+
+pub push_as-requires-clause-rule : goal.push_as-requires-clause-rule
+push_as-requires-clause-rule g c = (pushes _ _ _ _, learns _ _)
