@@ -1,4 +1,5 @@
 pub mod AccountFacts
 pub mod EntryFacts
 pub mod HeldFacts
+pub mod OrderFacts
 pub mod SightFacts

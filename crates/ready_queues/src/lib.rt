@@ -9,10 +9,14 @@
 mod account;
 mod entry;
 mod mutex_ready;
+mod order;
 mod ruled_ready;
 mod store;
+#[cfg(test)]
+mod tests;
 
 pub use entry::Entry;
 pub use mutex_ready::{MutexPass, MutexReady};
+pub use order::take_twice;
 pub use ruled_ready::{RuledPass, RuledReady, sole_knows};
 pub use store::ReadyStore;

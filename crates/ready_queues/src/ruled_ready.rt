@@ -115,7 +115,7 @@ impl RuledReady {
 impl ReadyStore for RuledReady {
     ghost use Rattle.std.specs.Prelude.{⊤};
     ghost use Rattle.ready_queues.specs.Account.{parted, new_hand};
-    ghost use Rattle.ready_queues.specs.Moments.{Moment, WasPushed, WasTaken, WasFull, InCall, EachWasEmpty};
+    ghost use Rattle.ready_queues.specs.Moments.{Moment, WasPushed, WasTaken, WasFull, Rose, InCall, EachWasEmpty};
     ghost use Rattle.ready_queues.specs.Sights.{Tells};
     ghost use Rattle.ready_queues.specs.SightLaws.{told_in_time, told_alike};
 
@@ -134,6 +134,7 @@ impl ReadyStore for RuledReady {
     fn push<R: Wait>(&self, rt: &R, qpass: &mut RuledPass, entry: Entry) -> Result<(), Entry>
         requires { IsPass self.now qpass.old }
         ensures pass { IsPass self.now qpass.new }
+        ensures number { Rose qpass.old.number qpass.new.number }
         ensures ok { OnOk result (InCall 1 qpass.old.number (Tells self.now qpass.new) (WasPushed entry)) }
         ensures same { IfErr result (λ back. back ≡ entry) }
         ensures full { OnErr result (InCall 1 qpass.old.number (Tells self.now qpass.new) (WasFull entry.priority)) }
@@ -155,6 +156,7 @@ impl ReadyStore for RuledReady {
     fn take<R: Wait>(&self, rt: &R, qpass: &mut RuledPass) -> Option<Entry>
         requires { IsPass self.now qpass.old }
         ensures pass { IsPass self.now qpass.new }
+        ensures number { Rose qpass.old.number qpass.new.number }
         ensures front { IfSome result (λ entry. InCall 1 qpass.old.number (Tells self.now qpass.new) (WasTaken entry)) }
         ensures higher { IfSome result (λ entry. EachWasEmpty 1 qpass.old.number (Tells self.now qpass.new) (λ p. IsAbove p entry.priority)) }
         ensures none { IfNone result (EachWasEmpty 1 qpass.old.number (Tells self.now qpass.new) (λ p. ⊤)) }

@@ -9,7 +9,7 @@ use std::sync::Wait;
 ///
 /// A worker has a pass. It keeps what its last call learned of the queues, each at one moment of that call.
 pub trait ReadyStore: Sync {
-    type QPass: Send;
+    type QPass: Send + Drop;
 
     /// The pass is one of this store.
     ghost is_pass: { Self → Self.QPass → Type 0 };
@@ -30,6 +30,7 @@ pub trait ReadyStore: Sync {
     fn push<R: Wait>(&self, rt: &R, qpass: &mut Self::QPass, entry: Entry) -> Result<(), Entry>
         requires { is_pass self.now qpass.old }
         ensures pass { is_pass self.now qpass.new }
+        ensures number { Rose (number qpass.old) (number qpass.new) }
         ensures split { may_split qpass.old → may_split qpass.new }
         ensures ok { OnOk result (InCall (lanes self.now) (number qpass.old) (saw self.now qpass.new) (WasPushed entry)) }
         ensures same { IfErr result (λ back. back ≡ entry) }
@@ -39,6 +40,7 @@ pub trait ReadyStore: Sync {
     fn take<R: Wait>(&self, rt: &R, qpass: &mut Self::QPass) -> Option<Entry>
         requires { is_pass self.now qpass.old }
         ensures pass { is_pass self.now qpass.new }
+        ensures number { Rose (number qpass.old) (number qpass.new) }
         ensures split { may_split qpass.old → may_split qpass.new }
         ensures front { IfSome result (λ entry. InCall (lanes self.now) (number qpass.old) (saw self.now qpass.new) (WasTaken entry)) }
         ensures higher { IfSome result (λ entry. EachWasEmpty (lanes self.now) (number qpass.old) (saw self.now qpass.new) (λ p. IsAbove p entry.priority)) }
