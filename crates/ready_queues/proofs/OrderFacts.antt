@@ -29,8 +29,16 @@ module _ {P : Type 0} (saw : P → Moment → Type 0) (number : P → ℕ) (in_t
       let e = each n.priority n.lane (subst which (sym taken.0) is) lane in
       (mid, e.0, n, e.1, told, e.2, rose_over e.0.number (number mid) n.number (in_time mid e.0 e.1) after, e.4, taken)
 
-  pub overtook : (first : Option Entry) → IfSome first (λ entry. EachWasEmpty lanes begun (saw mid) (λ p. IsAbove p entry.priority))
+  -- one entry that overtook the first take, or came after none
+  overtook : (first : Option Entry) → IfSome first (λ entry. EachWasEmpty lanes begun (saw mid) (λ p. IsAbove p entry.priority))
       → IfNone first (EachWasEmpty lanes begun (saw mid) (λ p. ⊤)) → (second : Entry)
       → InCall lanes (number mid) (saw now) (WasTaken second) → Overtakes first second → CameBetween saw begun now second
   overtook None higher none second taken over = came_between (λ p. ⊤) second tt none taken
   overtook (Some entry) higher none second taken over = came_between (λ p. IsAbove p entry.priority) second over higher taken
+
+  -- the same of what the second take gave, if anything
+  pub overtook_if : (first second : Option Entry) → IfSome first (λ entry. EachWasEmpty lanes begun (saw mid) (λ p. IsAbove p entry.priority))
+      → IfNone first (EachWasEmpty lanes begun (saw mid) (λ p. ⊤)) → IfSome second (λ entry. InCall lanes (number mid) (saw now) (WasTaken entry))
+      → IfSome second (λ entry. Overtakes first entry → CameBetween saw begun now entry)
+  overtook_if first None higher none taken = tt
+  overtook_if first (Some entry) higher none taken = overtook first higher none entry taken

@@ -1,4 +1,4 @@
-//! Four threads and as good as two million entries. Threads that push give the numbers from 0 on, with the priorities in turn.
+//! Four threads and two million entries. Threads that push give the numbers from 0 on, with the priorities in turn.
 use super::ready;
 use crate::{Entry, MutexReady, ReadyStore, RuledReady};
 use std::alloc::{AllocError, Global};
@@ -8,7 +8,7 @@ use std::thread;
 use std::thread::{Threads, join};
 use task_syntax::Priority;
 
-const ENTRIES: u32 = 1_999_998;
+const ENTRIES: u32 = 2_000_004;
 
 const THIRD: u32 = ENTRIES / 3;
 
@@ -89,7 +89,9 @@ impl Taken {
     // All entries were taken once, by this thread and the other together.
     fn is_all_once(&self, other: &Taken) -> bool {
         let both = self.times.iter().zip(other.times.iter());
-        both.filter(|(mine, theirs)| **mine ^ **theirs == 1).count() == ENTRIES as usize
+        both.filter(|(mine, theirs)| matches!((**mine, **theirs), (1, 0) | (0, 1)))
+            .count()
+            == ENTRIES as usize
     }
 }
 
