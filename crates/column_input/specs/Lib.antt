@@ -6,6 +6,7 @@ pub mod Rows
 pub mod Table
 pub mod Faults
 pub mod Laws
-pub mod Count
-pub mod Fetch
-pub mod MemoryShelf
+pub use Rattle.tool_io.specs.Count
+pub use Rattle.tool_io.specs.Fetch
+pub use Rattle.tool_io.specs.MemoryShelf
+pub use Rattle.tool_io.specs.Seen

@@ -1,8 +1,6 @@
 //! `ktask`: runs a task program and prints how each root ended, checks one, or prints its canonical text.
 #![tactic(auto)]
 
-use column_input::FileShelf;
-use ktask_cli::out_sink::OutSink;
 use ktask_cli::refuse::refuse;
 use ktask_cli::run_tool;
 use ktask_cli::stop::Stop;
@@ -10,6 +8,7 @@ use std::alloc::Alloc;
 use std::env::Env;
 use std::process::ExitCode;
 use std::{env, io};
+use tool_io::{FileShelf, OutSink};
 
 /// The words after the program's name.
 fn words<R: Env + Alloc>(rt: &R) -> io::Result<Vec<String<R::A>, R::A>> {

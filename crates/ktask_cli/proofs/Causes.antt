@@ -9,27 +9,24 @@ use Rattle.task_text.specs.declared.fault.Fault.{Fault}
 use Rattle.task_reader.specs.Read.{program_in}
 use Rattle.task_writer.specs.Text.{text_of}
 use Rattle.ktask_cli.specs.declared.choice.Command.TheVariants.{Run, Check, Print}
-use Rattle.column_input.specs.declared.fetch_error.FetchError.{FetchError}
+use Rattle.tool_io.specs.declared.fetch_error.FetchError.{FetchError}
 use Rattle.ktask_cli.specs.declared.stop.InputFile.TheVariants as file
 use Rattle.ktask_cli.specs.declared.stop.Stop.{Stop}
 use Rattle.ktask_cli.specs.declared.stop.Stop.TheVariants as stop
 use Rattle.ktask_cli.specs.Plan.{Plan, content_of, judged, OrWants, ◌>>=◌}
 use Rattle.ktask_cli.specs.Ready.{read_from, read_in, Checks, sizes_line, program_under, columns_from, columns_read, valid_under, columns_under, input_under, sizes_under, text_under}
-use Rattle.ktask_cli.specs.Seen.{ShelfSeen, Fetches}
+use Rattle.tool_io.specs.Seen.{ShelfSeen, Holds}
+use Rattle.ktask_cli.specs.Io.{Fetches}
 use Rattle.ktask_cli.specs.Statuses.{Suits, HasColumns, IsFetched}
 use Rattle.column_input.specs.Records.{records_of}
 use Rattle.column_input.specs.Reading.{columns_in, Fault as ColumnFault}
 use Rattle.ktask_cli.specs.Stop.{status_of, fetch_stop}
 use Rattle.ktask_cli.proofs.Plans.{judged_ready, Stopped, judged_stop, wanted, earlier, here, content_read, content_refused, both_ready, StoppedIn, in_first, in_next, both_stop, was_judged}
 
--- the shelf gives this text under a name, where it tells what it holds
-abbrev pub Tells : ShelfSeen → List ℕ → List ℕ → Type 0
-Tells shelf name text = IfSome (shelf.holds name) (λ held. text ≡ held)
-
 -- the program was fetched, and its text is a program of which P holds
 pub record Took (P : Program → Type 0) (name : List ℕ) (was : ShelfSeen) : Type 0 where
   pub text : List ℕ
-  pub tells : Tells was name text
+  pub tells : Holds was name text
   pub suits : IsOkAnd (program_in text) P
 
 -- why a plan stops, where the text is to be a program of which P holds

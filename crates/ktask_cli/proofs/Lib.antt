@@ -1,4 +1,3 @@
-pub mod Appended
 pub mod Told
 pub mod Reported
 pub mod Plans

@@ -1,12 +1,13 @@
 -- Parts of a plan, one behind another.
 use Rattle.std.proofs.Common.{◌≡◌, ℕ, List, Result, Ok, Err, IfOk, IfErr, inl, inr, refl, sym, subst}
 use Rattle.std.specs.Result.{result_map_both}
-use Rattle.column_input.specs.declared.fetch_error.FetchError.{FetchError}
+use Rattle.tool_io.specs.declared.fetch_error.FetchError.{FetchError}
 use Rattle.ktask_cli.specs.declared.stop.InputFile.{InputFile}
 use Rattle.ktask_cli.specs.declared.stop.Stop.{Stop}
 use Rattle.ktask_cli.specs.declared.stop.Stop.TheVariants.{WantOfMemory}
 use Rattle.ktask_cli.specs.Plan.{Plan, ◌>>=◌, content_of, judged, OrWants}
-use Rattle.ktask_cli.specs.Seen.{ShelfSeen, Fetches}
+use Rattle.tool_io.specs.Seen.{ShelfSeen}
+use Rattle.ktask_cli.specs.Io.{Fetches}
 use Rattle.ktask_cli.specs.Stop.{fetch_stop}
 
 -- a part that judges, behind one that has come to something

@@ -12,8 +12,8 @@ use Rattle.task_syntax.specs.declared.program.Root.{Root}
 use Rattle.task_syntax.specs.declared.program.Program.{Program}
 use Rattle.plain_engine.specs.declared.end.RootEnd.{RootEnd}
 use Rattle.ktask_cli.specs.Report.{root_line, root_lines}
-use Rattle.ktask_cli.specs.Sink.{AppendsAllBut, AppendsPrefix}
-use Rattle.ktask_cli.proofs.Appended.{appends_then}
+use Rattle.tool_io.specs.Sink.{AppendsAllBut, AppendsPrefix}
+use Rattle.tool_io.proofs.Appended.{appends_then}
 
 -- the lines of the roots and ends from a place on
 abbrev pub lines_from : ℕ → List Root → List RootEnd → List ℕ

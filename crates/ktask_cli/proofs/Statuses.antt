@@ -7,22 +7,23 @@ use Rattle.task_syntax.specs.declared.program.Program.{Program}
 use Rattle.plain_engine.specs.RunEnd.{RunEnd}
 use Rattle.ktask_cli.specs.declared.choice.Command.{Command}
 use Rattle.ktask_cli.specs.declared.choice.Command.TheVariants.{Run, Check, Print}
-use Rattle.column_input.specs.declared.fetch_error.FetchError.{FetchError}
-use Rattle.column_input.specs.declared.fetch_error.FetchError.TheVariants.{Failed, TooLong, Memory}
+use Rattle.tool_io.specs.declared.fetch_error.FetchError.{FetchError}
+use Rattle.tool_io.specs.declared.fetch_error.FetchError.TheVariants.{Failed, TooLong, Memory}
 use Rattle.ktask_cli.specs.declared.stop.Stop.{Stop}
 use Rattle.ktask_cli.specs.declared.stop.Stop.TheVariants as stop
 use Rattle.ktask_cli.specs.Choice.{Choice}
-use Rattle.column_input.specs.Count.{Rose}
-use Rattle.column_input.specs.Fetch.{FailedOnlyByFault}
+use Rattle.tool_io.specs.Count.{Rose}
+use Rattle.tool_io.specs.Fetch.{FailedOnlyByFault}
 use Rattle.ktask_cli.specs.Outcome.{Answer, Writes, Runs, Prints, Stops, Reaches, Does}
 use Rattle.ktask_cli.specs.Plan.{Plan}
 use Rattle.ktask_cli.specs.Ready.{input_under, sizes_under, text_under}
 use Rattle.ktask_cli.specs.Refusal.{TellsOrWants, Told}
 use Rattle.ktask_cli.specs.Report.{report_of, status_of_ends}
-use Rattle.ktask_cli.specs.Seen.{ShelfSeen, SinkSeen, Fetches}
+use Rattle.tool_io.specs.Seen.{ShelfSeen, SinkSeen, Holds}
+use Rattle.ktask_cli.specs.Io.{Fetches}
 use Rattle.ktask_cli.specs.Statuses.{Suits, SuitsText, HasColumns, IsFetched, IsRefused, IsOrWants, TwoForWords, FiveForText, SixForColumns, IsLong, SevenForFetch, EightForOut, ZeroForPrinted, HoldsColumns, RunForSuited, QuietWhereRefused, SilentWhereDone, RunsAtStatus, IsStatusOf, EndsByStatus, StatusHasCause}
 use Rattle.ktask_cli.specs.Stop.{status_of, longest_file, named_for}
-use Rattle.ktask_cli.proofs.Causes.{Tells, Took, Cause, wants, unfetched, unsuited, Keeps, ColumnsCause, columns_want, columns_unfetched, columns_refused, Had, TookInput, run_took, RunCause, in_program, in_columns, run_stopped, TookOne, check_took, check_stopped, print_took, print_stopped}
+use Rattle.ktask_cli.proofs.Causes.{Took, Cause, wants, unfetched, unsuited, Keeps, ColumnsCause, columns_want, columns_unfetched, columns_refused, Had, TookInput, run_took, RunCause, in_program, in_columns, run_stopped, TookOne, check_took, check_stopped, print_took, print_stopped}
 use Rattle.ktask_cli.proofs.Ends.{Shows, all_numbers, none_cut, limited, run_shows}
 
 -- ---- what can come of a command
@@ -39,8 +40,8 @@ data Came (command : Command) (name : List ℕ) (columns : Option (List ℕ)) (w
   unprinted : ¬ (command ≡ Run) → Took (Suits command) name was → IsFetched is → IsNone a.finished → a.status ≡ 8 → Rose a.out_was.faults a.out_is.faults → Came command name columns was is a
   wanting : Quiet a → a.status ≡ 9 → Came command name columns was is a
   refused : Quiet a → a.status ≡ 7 → IsRefused is → Rose was.faults is.faults ⊎ (IsLong was name ⊎ IsSomeAnd columns (IsLong was)) → Came command name columns was is a
-  unfit : Quiet a → a.status ≡ 5 → IsFetched is → (text : List ℕ) → Tells was name text → ¬ SuitsText command text → Came command name columns was is a
-  unfit_columns : Quiet a → a.status ≡ 6 → IsFetched is → command ≡ Run → Took (Suits command) name was → (file text : List ℕ) → columns ≡ Some file → Tells was file text → ¬ HasColumns text → Came command name columns was is a
+  unfit : Quiet a → a.status ≡ 5 → IsFetched is → (text : List ℕ) → Holds was name text → ¬ SuitsText command text → Came command name columns was is a
+  unfit_columns : Quiet a → a.status ≡ 6 → IsFetched is → command ≡ Run → Took (Suits command) name was → (file text : List ℕ) → columns ≡ Some file → Holds was file text → ¬ HasColumns text → Came command name columns was is a
 
 -- a fetch that was refused: by a fault of the shelf, or since the file is too long
 refused_for : (was is : ShelfSeen) (name : List ℕ) (error : FetchError) → Fetches was is name (Err error) → (error ≡ Failed) ⊎ (error ≡ TooLong)
@@ -238,7 +239,7 @@ six_where : (command : Command) (name file : List ℕ) (was : ShelfSeen) (a : An
 six_where command name file was a due = if_some_all (was.holds name) (λ program. SuitsText command program → IfSome (was.holds file) (λ held. ¬ HasColumns held → IsOrWants 6 a))
     (λ program suits. if_some_all (was.holds file) (λ held. ¬ HasColumns held → IsOrWants 6 a) (λ held not. due))
 
-six_where_unsuited : (command : Command) (name file text : List ℕ) (was : ShelfSeen) (a : Answer) → Tells was name text → ¬ SuitsText command text → DueSix command name file was a
+six_where_unsuited : (command : Command) (name file text : List ℕ) (was : ShelfSeen) (a : Answer) → Holds was name text → ¬ SuitsText command text → DueSix command name file was a
 six_where_unsuited command name file text was a tells not =
     if_some (was.holds name) (λ held. text ≡ held) (λ program. SuitsText command program → IfSome (was.holds file) (λ held. ¬ HasColumns held → IsOrWants 6 a))
     (λ program e suits. absurd (not (subst (SuitsText command) (sym e) suits))) tells
@@ -247,7 +248,7 @@ six_where_read : (command : Command) (name file : List ℕ) (was : ShelfSeen) (a
 six_where_read command name file was a has = if_some_all (was.holds name) (λ program. SuitsText command program → IfSome (was.holds file) (λ held. ¬ HasColumns held → IsOrWants 6 a))
     (λ program suits. if_some (was.holds file) HasColumns (λ held. ¬ HasColumns held → IsOrWants 6 a) (λ held got not. absurd (not got)) has)
 
-six_refused : (command : Command) (name : List ℕ) (columns : Option (List ℕ)) (was is : ShelfSeen) (a : Answer) → a.status ≡ 6 → IsFetched is → command ≡ Run → Took (Suits command) name was → (file text : List ℕ) → columns ≡ Some file → Tells was file text → ¬ HasColumns text
+six_refused : (command : Command) (name : List ℕ) (columns : Option (List ℕ)) (was is : ShelfSeen) (a : Answer) → a.status ≡ 6 → IsFetched is → command ≡ Run → Took (Suits command) name was → (file text : List ℕ) → columns ≡ Some file → Holds was file text → ¬ HasColumns text
     → SixForColumns (Some (command, name, columns)) was is a
 six_refused command name None was is a status told run took file text named tells not = cc
 six_refused command name (Some other_file) was is a status told run took file text named tells not =
@@ -297,7 +298,7 @@ zero_printed command name columns was is a c plain last = by c where
       (λ held e suits no. absurd (not (subst (SuitsText command) (sym e) suits))) tells
   by (unfit_columns q status told run took file text named tells not) = absurd (plain run)
 
-held_columns : (columns : Option (List ℕ)) (was : ShelfSeen) (file text : List ℕ) → columns ≡ Some file → Tells was file text → ¬ HasColumns text → HoldsColumns was columns → ⊥
+held_columns : (columns : Option (List ℕ)) (was : ShelfSeen) (file text : List ℕ) → columns ≡ Some file → Holds was file text → ¬ HasColumns text → HoldsColumns was columns → ⊥
 held_columns None was file text named tells not holds = cc
 held_columns (Some other_file) was file text named tells not holds =
     let e : file ≡ other_file = cc in by (was.holds other_file) (subst (λ f. IfSome (was.holds f) (λ held. text ≡ held)) e tells) holds where

@@ -5,7 +5,8 @@ use Rattle.std.specs.declared.alloc.Global.{Global}
 use Rattle.ktask_cli.specs.declared.stop.Stop.{Stop}
 use Rattle.ktask_cli.specs.declared.stop.Stop.TheVariants.{WantOfMemory}
 use Rattle.ktask_cli.specs.Refusal.{Tells, TellsOrWants}
-use Rattle.ktask_cli.specs.Seen.{SinkSeen, Offers}
+use Rattle.tool_io.specs.Seen.{SinkSeen}
+use Rattle.ktask_cli.specs.Io.{Offers}
 use Rattle.ktask_cli.specs.Stop.{status_of, line_of}
 
 pub made_told : (line : Result (String Global) AllocError) (stop : Stop) (name : List ℕ) (status due : ℕ) (was is : SinkSeen)

@@ -1,11 +1,16 @@
 -- What the words of the command line ask for: a command, the program's file, and for a run maybe a file of columns.
-use Rattle.std.specs.Prelude.{ℕ, List, [], ◌∷◌, Option, Some, None, codes, bytes_eq, option_map, if◌then◌else◌}
+use Rattle.std.specs.Prelude.{ℕ, List, [], ◌∷◌, Option, Some, None, option_copied, codes, bytes_eq, option_map, if◌then◌else◌}
 use Rattle.ktask_cli.specs.declared.choice.Command.{Command}
 use Rattle.ktask_cli.specs.declared.choice.Command.TheVariants.{Run, Check, Print}
+use Rattle.ktask_cli.specs.declared.choice.Choice.{Choice as Chosen}
 
 -- the command, the name of the program's file, and that of the columns' file
 abbrev pub Choice : Type 0
 Choice = Command × List ℕ × Option (List ℕ)
+
+-- what was chosen, as words
+abbrev pub chosen : Option Chosen → Option Choice
+chosen = option_map (λ choice. (choice.command, choice.program.now, option_copied choice.columns))
 
 -- the command of a word
 abbrev pub command_of : List ℕ → Option Command

@@ -1,11 +1,8 @@
 pub mod Choice
-pub mod Fault
-pub mod MemorySink
 pub mod Plan
 pub mod Refusal
 pub mod Report
-pub mod Seen
-pub mod Sink
+pub mod Io
 pub mod Stop
 pub mod Ready
 pub mod Outcome

@@ -1,6 +1,5 @@
 -- How a command ends: what it answers, and what the two sinks took.
 use Rattle.std.specs.Prelude.{◌≡◌, ℕ, ◌⊎◌, List, [], Option, Some, None, Result, MatchResult, IsNone}
-use Rattle.std.specs.Io.KnownBytes.{Appends}
 use Rattle.task_syntax.specs.declared.columns.Columns.{Columns}
 use Rattle.task_syntax.specs.declared.program.Program.{Program}
 use Rattle.plain_engine.specs.RunEnd.{RunEnd}
@@ -8,14 +7,15 @@ use Rattle.plain_engine.specs.SoundEnd.{IsSoundEnd}
 use Rattle.ktask_cli.specs.declared.choice.Command.TheVariants.{Run, Check, Print}
 use Rattle.ktask_cli.specs.declared.stop.Stop.{Stop}
 use Rattle.ktask_cli.specs.declared.stop.Stop.TheVariants.{WordsRefused, WriteFault}
+use Rattle.ktask_cli.specs.declared.outcome.Outcome.{Outcome}
 use Rattle.ktask_cli.specs.Choice.{Choice}
-use Rattle.column_input.specs.Count.{Rose}
+use Rattle.tool_io.specs.Count.{Rose}
 use Rattle.ktask_cli.specs.Plan.{Plan}
 use Rattle.ktask_cli.specs.Ready.{input_under, sizes_under, text_under}
 use Rattle.ktask_cli.specs.Refusal.{Tells, Told}
 use Rattle.ktask_cli.specs.Report.{report_of, status_of_ends}
-use Rattle.ktask_cli.specs.Seen.{ShelfSeen, SinkSeen}
-use Rattle.ktask_cli.specs.Sink.{AppendsPrefix}
+use Rattle.tool_io.specs.Seen.{ShelfSeen, SinkSeen}
+use Rattle.tool_io.specs.Sink.{Adds, AddsFront}
 use Rattle.ktask_cli.specs.Stop.{named_for}
 
 -- the status and the ended run that are answered, and the two sinks before and after
@@ -27,25 +27,30 @@ pub record Answer : Type 0 where
   pub err_was : SinkSeen
   pub err_is : SinkSeen
 
-abbrev pub answer : ℕ → Option RunEnd → SinkSeen → SinkSeen → SinkSeen → SinkSeen → Answer
-answer status finished out_was out_is err_was err_is = record {
-  status = status;
-  finished = finished;
+abbrev pub answer : Outcome → SinkSeen → SinkSeen → SinkSeen → SinkSeen → Answer
+answer outcome out_was out_is err_was err_is = record {
+  status = outcome.status;
+  finished = outcome.finished;
   out_was = out_was;
   out_is = out_is;
   err_was = err_was;
   err_is = err_is;
 }
 
+-- the answer of a command that runs nothing
+abbrev pub plain_answer : ℕ → SinkSeen → SinkSeen → SinkSeen → SinkSeen → Answer
+plain_answer status out_was out_is err_was err_is =
+    answer (record { status = status; finished = None }) out_was out_is err_was err_is
+
 -- `out` took the whole text, and the status is the one that is due then
 pub record Takes (text : List ℕ) (status : ℕ) (a : Answer) : Type 0 where
   pub status_is : a.status ≡ status
-  pub out : Appends a.out_was.taken a.out_is.taken text
+  pub out : Adds a.out_was a.out_is text
   pub err : a.err_is ≡ a.err_was
 
 -- `out` took a front of the text, since it had a fault, which was told
 pub record TakesFront (text : List ℕ) (a : Answer) : Type 0 where
-  pub out : AppendsPrefix a.out_was.taken a.out_is.taken text
+  pub out : AddsFront a.out_was a.out_is text
   pub fault : Rose a.out_was.faults a.out_is.faults
   pub told : Tells WriteFault [] a.status a.err_was a.err_is
 

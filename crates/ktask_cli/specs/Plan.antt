@@ -1,11 +1,12 @@
 -- The order in which a command fetches its files and meets its refusals.
 use Rattle.std.specs.Prelude.{◌≡◌, ℕ, ◌⊎◌, List, Result, Err, MatchResult}
 use Rattle.std.specs.Result.{result_map_both}
-use Rattle.column_input.specs.declared.fetch_error.FetchError.{FetchError}
+use Rattle.tool_io.specs.declared.fetch_error.FetchError.{FetchError}
 use Rattle.ktask_cli.specs.declared.stop.InputFile.{InputFile}
 use Rattle.ktask_cli.specs.declared.stop.Stop.{Stop}
 use Rattle.ktask_cli.specs.declared.stop.Stop.TheVariants.{WantOfMemory}
-use Rattle.ktask_cli.specs.Seen.{ShelfSeen, Fetches}
+use Rattle.tool_io.specs.Seen.{ShelfSeen}
+use Rattle.ktask_cli.specs.Io.{Fetches}
 use Rattle.ktask_cli.specs.Stop.{fetch_stop}
 
 -- what a part of a command leaves of the shelf, and what it comes to: something that is ready, or a reason to stop

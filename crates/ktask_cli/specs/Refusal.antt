@@ -2,7 +2,8 @@
 use Rattle.std.specs.Prelude.{◌≡◌, ℕ, ◌⊎◌, List}
 use Rattle.ktask_cli.specs.declared.stop.Stop.{Stop}
 use Rattle.ktask_cli.specs.declared.stop.Stop.TheVariants.{CannotRead, TooLong, WantOfMemory}
-use Rattle.ktask_cli.specs.Seen.{SinkSeen, Offers}
+use Rattle.tool_io.specs.Seen.{SinkSeen}
+use Rattle.ktask_cli.specs.Io.{Offers}
 use Rattle.ktask_cli.specs.Stop.{status_of, line_of}
 
 -- the reason's status, and its line was offered

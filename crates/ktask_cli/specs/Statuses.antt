@@ -14,12 +14,12 @@ use Rattle.plain_engine.specs.declared.end.RootEnd.{RootEnd}
 use Rattle.plain_engine.specs.declared.end.RootEnd.TheVariants.{Value, Cut}
 use Rattle.ktask_cli.specs.declared.choice.Command.{Command}
 use Rattle.ktask_cli.specs.declared.choice.Command.TheVariants.{Run, Check, Print}
-use Rattle.column_input.specs.declared.fetch_error.FetchError.TheVariants.{Failed, TooLong}
+use Rattle.tool_io.specs.declared.fetch_error.FetchError.TheVariants.{Failed, TooLong}
 use Rattle.ktask_cli.specs.Choice.{Choice}
-use Rattle.column_input.specs.Count.{Rose}
+use Rattle.tool_io.specs.Count.{Rose}
 use Rattle.ktask_cli.specs.Outcome.{Answer}
 use Rattle.ktask_cli.specs.Report.{status_of_ends, is_trap, is_limit}
-use Rattle.ktask_cli.specs.Seen.{ShelfSeen}
+use Rattle.tool_io.specs.Seen.{ShelfSeen, Holds, HoldsMore}
 use Rattle.ktask_cli.specs.Stop.{longest_file}
 
 -- the command takes a program: a run and `check` take a valid one, `print` each
@@ -55,7 +55,7 @@ TwoForWords choice a = (a.status ≡ 2) ↔ (choice ≡ None)
 abbrev pub FiveForText : Option Choice → ShelfSeen → ShelfSeen → Answer → Type 0
 FiveForText None was is a = ¬ (a.status ≡ 5)
 FiveForText (Some (command, name, columns)) was is a =
-    (a.status ≡ 5 → IsFetched is × ((text : List ℕ) × IfSome (was.holds name) (λ held. text ≡ held) × ¬ SuitsText command text))
+    (a.status ≡ 5 → IsFetched is × ((text : List ℕ) × Holds was name text × ¬ SuitsText command text))
     × (IsFetched is → IfSome (was.holds name) (λ held. ¬ SuitsText command held → IsOrWants 5 a))
 
 -- 6 exactly where a run's program suits it, the columns were fetched, and they are refused
@@ -64,13 +64,13 @@ SixForColumns None was is a = ¬ (a.status ≡ 6)
 SixForColumns (Some (command, name, None)) was is a = ¬ (a.status ≡ 6)
 SixForColumns (Some (command, name, Some columns)) was is a =
     (a.status ≡ 6 → (command ≡ Run) × IsFetched is
-    × ((program : List ℕ) × IfSome (was.holds name) (λ held. program ≡ held) × SuitsText command program)
-    × ((text : List ℕ) × IfSome (was.holds columns) (λ held. text ≡ held) × ¬ HasColumns text))
+    × ((program : List ℕ) × Holds was name program × SuitsText command program)
+    × ((text : List ℕ) × Holds was columns text × ¬ HasColumns text))
     × (command ≡ Run → IsFetched is → IfSome (was.holds name) (λ program. SuitsText command program → IfSome (was.holds columns) (λ held. ¬ HasColumns held → IsOrWants 6 a)))
 
 -- the shelf holds a longer file than is read under this name, where it tells what it holds
 abbrev pub IsLong : ShelfSeen → List ℕ → Type 0
-IsLong shelf name = IfSome (shelf.holds name) (λ held. longest_file < length held)
+IsLong shelf name = HoldsMore shelf name longest_file
 
 -- 7 exactly where a fetch was refused: the shelf had a fault, or a file that is named is too long; which of them, `Does` says
 abbrev pub SevenForFetch : Option Choice → ShelfSeen → ShelfSeen → Answer → Type 0

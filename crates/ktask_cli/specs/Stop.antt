@@ -7,8 +7,8 @@ use Rattle.ktask_cli.specs.declared.stop.InputFile.{InputFile}
 use Rattle.ktask_cli.specs.declared.stop.InputFile.TheVariants as file
 use Rattle.ktask_cli.specs.declared.stop.Stop.{Stop}
 use Rattle.ktask_cli.specs.declared.stop.Stop.TheVariants.{WordsRefused, CannotRead, TooLong, ProgramFault, CheckFault, ColumnsFault, WriteFault, WantOfMemory}
-use Rattle.column_input.specs.declared.fetch_error.FetchError.{FetchError}
-use Rattle.column_input.specs.declared.fetch_error.FetchError.TheVariants as fetch
+use Rattle.tool_io.specs.declared.fetch_error.FetchError.{FetchError}
+use Rattle.tool_io.specs.declared.fetch_error.FetchError.TheVariants as fetch
 
 abbrev pub status_of : Stop → ℕ
 status_of WordsRefused = 2

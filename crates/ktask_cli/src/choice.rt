@@ -1,5 +1,5 @@
-ghost use Rattle.std.specs.Prelude.{◌≡◌, map, option_copied, option_map, string_bytes};
-ghost use Rattle.ktask_cli.specs.Choice.{choice_of, command_of};
+ghost use Rattle.std.specs.Prelude.{◌≡◌, map, string_bytes};
+ghost use Rattle.ktask_cli.specs.Choice.{choice_of, chosen, command_of};
 
 /// What the tool does with a program.
 #[derive(Clone, Copy, Debug, PartialEq, Eq)]
@@ -30,7 +30,7 @@ fn command_of(word: &str) -> Option<Command>
 
 /// What the words ask for, and none where they are refused.
 pub fn choose(words: &[String]) -> Option<Choice<'_>>
-    ensures { option_map (λ choice. (choice.command, choice.program.now, option_copied choice.columns)) result ≡ choice_of (map string_bytes words.now) }
+    ensures { chosen result ≡ choice_of (map string_bytes words.now) }
 {
     match words {
         [word, program] => Some(Choice {

@@ -3,11 +3,11 @@ ghost use Rattle.task_check.specs.Causes.{code_of, word_of};
 ghost use Rattle.ktask_cli.specs.declared.stop.Stop.TheVariants.{ProgramFault, CheckFault, ColumnsFault};
 ghost use Rattle.ktask_cli.specs.Stop.{line_of, cause_name, printed_name};
 
-use crate::line::Line;
 use column_input::Cause as ColumnCause;
 use itoa::Buffer;
 use task_check::Cause;
 use task_syntax::Name;
+use tool_io::Line;
 
 // The name that is printed of a cause for which a text is no program.
 fn cause_name(cause: u8) -> &'static str

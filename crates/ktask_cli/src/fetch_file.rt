@@ -1,12 +1,11 @@
 ghost use Rattle.std.specs.Prelude.{◌≤◌, IfOk, length};
 ghost use Rattle.std.specs.Result.{result_map_both};
 ghost use Rattle.ktask_cli.specs.Plan.{content_of};
-ghost use Rattle.ktask_cli.specs.Seen.{shelf_seen};
 ghost use Rattle.ktask_cli.specs.Stop.{longest_file};
 
 use crate::stop::{InputFile, Stop};
-use column_input::{FetchError, Shelf};
 use std::alloc::Global;
+use tool_io::{FetchError, Shelf};
 
 /// The greatest length of a file that is read.
 pub const FILE_LIMIT: u64 = 16_777_216;
@@ -20,7 +19,7 @@ pub fn fetch_file<S: Shelf>(
 ) -> Result<Vec<u8>, Stop>
     ensures short { IfOk result (λ bytes. length bytes.items ≤ longest_file) }
     ensures follows { content_of which name.now
-        (shelf_seen S.holds S.last S.faults shelf.old) (shelf_seen S.holds S.last S.faults shelf.new)
+        (S.seen shelf.old) (S.seen shelf.new)
         (result_map_both (λ bytes. bytes.items) (λ stop. stop) result) }
 {
     let mut bytes = Vec::new(alloc);

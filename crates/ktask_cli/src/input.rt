@@ -2,14 +2,14 @@ ghost use Rattle.std.specs.Prelude.{◌≡◌, Some, option_copied};
 ghost use Rattle.std.specs.Result.{result_map_both};
 ghost use Rattle.ktask_cli.specs.Plan.{OrWants};
 ghost use Rattle.ktask_cli.specs.Ready.{columns_read, columns_under, input_under};
-ghost use Rattle.ktask_cli.specs.Seen.{shelf_seen};
 
 use crate::fetch_file::fetch_file;
 use crate::program::fetch_valid;
 use crate::stop::{InputFile, Stop};
-use column_input::{ColumnError, Shelf, read_columns};
+use column_input::{ColumnError, read_columns};
 use std::alloc::Global;
 use task_syntax::{Checked, Columns};
+use tool_io::Shelf;
 
 /// What is run: a valid program, and the columns that it sees.
 #[derive(Debug, Drop)]
@@ -34,7 +34,7 @@ fn read_cells(alloc: Global, text: &[u8]) -> Result<Columns, Stop>
 /// Fetches and reads the columns under a name.
 fn fetch_cells<S: Shelf>(alloc: Global, name: &str, shelf: &mut S) -> Result<Columns, Stop>
     ensures { columns_under (Some name.now)
-        (shelf_seen S.holds S.last S.faults shelf.old) (shelf_seen S.holds S.last S.faults shelf.new) result }
+        (S.seen shelf.old) (S.seen shelf.new) result }
 {
     match fetch_file(alloc, shelf, InputFile::Columns, name) {
         Ok(text) => read_cells(alloc, &text),
@@ -49,7 +49,7 @@ fn fetch_columns<S: Shelf>(
     shelf: &mut S,
 ) -> Result<Columns, Stop>
     ensures { columns_under (option_copied name.entry)
-        (shelf_seen S.holds S.last S.faults shelf.old) (shelf_seen S.holds S.last S.faults shelf.new) result }
+        (S.seen shelf.old) (S.seen shelf.new) result }
 {
     match name {
         None => Ok(Columns::none(alloc)),
@@ -65,7 +65,7 @@ pub(crate) fn fetch_input<S: Shelf>(
     shelf: &mut S,
 ) -> Result<Input, Stop>
     ensures { input_under program.now (option_copied columns.entry)
-        (shelf_seen S.holds S.last S.faults shelf.old) (shelf_seen S.holds S.last S.faults shelf.new)
+        (S.seen shelf.old) (S.seen shelf.new)
         (result_map_both (λ input. (input.checked, input.columns)) (λ stop. stop) result) }
 {
     match fetch_valid(alloc, program, shelf) {

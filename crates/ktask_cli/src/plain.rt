@@ -2,25 +2,22 @@ ghost use Rattle.std.specs.Result.{result_map_both};
 ghost use Rattle.std.specs.Prelude.{Ok, ◌≡◌, None, map, string_bytes};
 ghost use Rattle.task_syntax.specs.Form.{IsWellFormed};
 ghost use Rattle.task_writer.specs.Text.{text_of};
-ghost use Rattle.ktask_cli.specs.Choice.{choice_of, plain_of};
-ghost use Rattle.ktask_cli.specs.Outcome.{Does, Reaches, Prints, answer};
+ghost use Rattle.ktask_cli.specs.Choice.{choice_of, chosen, plain_of};
+ghost use Rattle.ktask_cli.specs.Outcome.{Does, Reaches, Prints, plain_answer};
 ghost use Rattle.ktask_cli.specs.Plan.{OrWants};
 ghost use Rattle.ktask_cli.specs.Ready.{sizes_line, sizes_under, text_under};
-ghost use Rattle.ktask_cli.specs.Seen.{shelf_seen, sink_seen};
 ghost use Rattle.ktask_cli.specs.Statuses.{StatusHasCause};
 
 use crate::choice::{Choice, Command, choose};
-use crate::line::Line;
 use crate::program::{fetch_program, fetch_valid};
 use crate::refuse::refuse;
-use crate::sink::Sink;
 use crate::stop::Stop;
 use crate::write_text::print;
-use column_input::Shelf;
 use itoa::Buffer;
 use std::alloc::Global;
 use task_syntax::{Memory, Program};
 use task_writer::write_program;
+use tool_io::{Line, Shelf, Sink};
 
 /// The line that tells how many kinds and roots a program has, with its line end.
 fn sizes_line(program: &Program) -> Line
@@ -44,8 +41,8 @@ fn print_sizes<S: Shelf, O: Sink, E: Sink>(
     err: &mut E,
 ) -> u8
     ensures { Reaches (sizes_under name.now) Prints (λ stop. name.now)
-        (shelf_seen S.holds S.last S.faults shelf.old) (shelf_seen S.holds S.last S.faults shelf.new)
-        (answer result None (sink_seen O.taken O.faults out.old) (sink_seen O.taken O.faults out.new) (sink_seen E.taken E.faults err.old) (sink_seen E.taken E.faults err.new)) }
+        (S.seen shelf.old) (S.seen shelf.new)
+        (plain_answer result (O.seen out.old) (O.seen out.new) (E.seen err.old) (E.seen err.new)) }
 {
     match fetch_valid(alloc, name, shelf) {
         Ok(checked) => print(sizes_line(checked.program()).as_bytes(), out, err),
@@ -56,7 +53,8 @@ fn print_sizes<S: Shelf, O: Sink, E: Sink>(
 /// The canonical text of a program.
 fn write(alloc: Global, program: &Program) -> Result<Vec<u8>, Stop>
     requires { IsWellFormed program.now }
-    ensures { OrWants (λ r. r ≡ Ok (text_of program.now)) (result_map_both (λ bytes. bytes.items) (λ stop. stop) result) }
+    ensures { OrWants (λ r. r ≡ Ok (text_of program.now))
+        (result_map_both (λ bytes. bytes.items) (λ stop. stop) result) }
 {
     match write_program(alloc, program) {
         Ok(text) => Ok(text),
@@ -67,7 +65,7 @@ fn write(alloc: Global, program: &Program) -> Result<Vec<u8>, Stop>
 /// Fetches and reads the program under a name, and makes its canonical text.
 fn fetch_text<S: Shelf>(alloc: Global, name: &str, shelf: &mut S) -> Result<Vec<u8>, Stop>
     ensures { text_under name.now
-        (shelf_seen S.holds S.last S.faults shelf.old) (shelf_seen S.holds S.last S.faults shelf.new)
+        (S.seen shelf.old) (S.seen shelf.new)
         (result_map_both (λ bytes. bytes.items) (λ stop. stop) result) }
 {
     match fetch_program(alloc, name, shelf) {
@@ -85,8 +83,8 @@ fn print_program<S: Shelf, O: Sink, E: Sink>(
     err: &mut E,
 ) -> u8
     ensures { Reaches (text_under name.now) Prints (λ stop. name.now)
-        (shelf_seen S.holds S.last S.faults shelf.old) (shelf_seen S.holds S.last S.faults shelf.new)
-        (answer result None (sink_seen O.taken O.faults out.old) (sink_seen O.taken O.faults out.new) (sink_seen E.taken E.faults err.old) (sink_seen E.taken E.faults err.new)) }
+        (S.seen shelf.old) (S.seen shelf.new)
+        (plain_answer result (O.seen out.old) (O.seen out.new) (E.seen err.old) (E.seen err.new)) }
 {
     match fetch_text(alloc, name, shelf) {
         Ok(text) => print(&text, out, err),
@@ -94,18 +92,18 @@ fn print_program<S: Shelf, O: Sink, E: Sink>(
     }
 }
 
-fn do_plain<S: Shelf, O: Sink, E: Sink>(
+/// Does what was chosen, where that is no run.
+pub(crate) fn do_plain<S: Shelf, O: Sink, E: Sink>(
     alloc: Global,
-    words: &[String],
+    choice: Option<Choice<'_>>,
     shelf: &mut S,
     out: &mut O,
     err: &mut E,
 ) -> u8
-    ensures { Does (plain_of (choice_of (map string_bytes words.now)))
-        (shelf_seen S.holds S.last S.faults shelf.old) (shelf_seen S.holds S.last S.faults shelf.new)
-        (answer result None (sink_seen O.taken O.faults out.old) (sink_seen O.taken O.faults out.new) (sink_seen E.taken E.faults err.old) (sink_seen E.taken E.faults err.new)) }
+    ensures { Does (plain_of (chosen choice.entry)) (S.seen shelf.old) (S.seen shelf.new)
+        (plain_answer result (O.seen out.old) (O.seen out.new) (E.seen err.old) (E.seen err.new)) }
 {
-    match choose(words) {
+    match choice {
         Some(
             Choice {
                 command: Command::Check,
@@ -139,11 +137,11 @@ pub fn plain_tool<S: Shelf, O: Sink, E: Sink>(
     err: &mut E,
 ) -> u8
     ensures whole { Does (plain_of (choice_of (map string_bytes words.now)))
-        (shelf_seen S.holds S.last S.faults shelf.old) (shelf_seen S.holds S.last S.faults shelf.new)
-        (answer result None (sink_seen O.taken O.faults out.old) (sink_seen O.taken O.faults out.new) (sink_seen E.taken E.faults err.old) (sink_seen E.taken E.faults err.new)) }
+        (S.seen shelf.old) (S.seen shelf.new)
+        (plain_answer result (O.seen out.old) (O.seen out.new) (E.seen err.old) (E.seen err.new)) }
     ensures causes { StatusHasCause (plain_of (choice_of (map string_bytes words.now)))
-        (shelf_seen S.holds S.last S.faults shelf.old) (shelf_seen S.holds S.last S.faults shelf.new)
-        (answer result None (sink_seen O.taken O.faults out.old) (sink_seen O.taken O.faults out.new) (sink_seen E.taken E.faults err.old) (sink_seen E.taken E.faults err.new)) }
+        (S.seen shelf.old) (S.seen shelf.new)
+        (plain_answer result (O.seen out.old) (O.seen out.new) (E.seen err.old) (E.seen err.new)) }
 {
-    do_plain(alloc, words, shelf, out, err)
+    do_plain(alloc, choose(words), shelf, out, err)
 }

@@ -2,16 +2,15 @@ ghost use Rattle.std.specs.Prelude.{◌≡◌, ◌≤◌, IfOk, length};
 ghost use Rattle.task_syntax.specs.Form.{IsWellFormed};
 ghost use Rattle.ktask_cli.specs.Plan.{OrWants};
 ghost use Rattle.ktask_cli.specs.Ready.{read_in, Checks, program_under, valid_under};
-ghost use Rattle.ktask_cli.specs.Seen.{shelf_seen};
 ghost use Rattle.ktask_cli.specs.Stop.{longest_file};
 
 use crate::fetch_file::fetch_file;
 use crate::stop::{InputFile, Stop};
-use column_input::Shelf;
 use std::alloc::Global;
 use task_check::{CheckError, check};
 use task_reader::{ReadError, read_program};
 use task_syntax::{Checked, Program};
+use tool_io::Shelf;
 
 /// Reads the text of a program.
 fn read_text(alloc: Global, text: &[u8]) -> Result<Program, Stop>
@@ -49,7 +48,7 @@ pub(crate) fn fetch_program<S: Shelf>(
     shelf: &mut S,
 ) -> Result<Program, Stop>
     ensures follows { program_under name.now
-        (shelf_seen S.holds S.last S.faults shelf.old) (shelf_seen S.holds S.last S.faults shelf.new) result }
+        (S.seen shelf.old) (S.seen shelf.new) result }
     ensures formed { IfOk result IsWellFormed }
 {
     match fetch_file(alloc, shelf, InputFile::Program, name) {
@@ -65,7 +64,7 @@ pub(crate) fn fetch_valid<S: Shelf>(
     shelf: &mut S,
 ) -> Result<Checked, Stop>
     ensures { valid_under name.now
-        (shelf_seen S.holds S.last S.faults shelf.old) (shelf_seen S.holds S.last S.faults shelf.new) result }
+        (S.seen shelf.old) (S.seen shelf.new) result }
 {
     match fetch_program(alloc, name, shelf) {
         Ok(program) => check_read(alloc, program),

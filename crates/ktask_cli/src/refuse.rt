@@ -1,14 +1,13 @@
 ghost use Rattle.std.specs.Prelude.{◌≡◌, [], IfOk, OnErr, string_bytes};
 ghost use Rattle.ktask_cli.specs.declared.stop.Stop.TheVariants.{WantOfMemory};
 ghost use Rattle.ktask_cli.specs.Refusal.{Tells, Told};
-ghost use Rattle.ktask_cli.specs.Seen.{Offers, sink_seen};
+ghost use Rattle.ktask_cli.specs.Io.{Offers};
 
 use crate::fault_line::{check_line, columns_line, fault_line};
 use crate::fetch_file::FILE_LIMIT;
-use crate::put::put_all;
-use crate::sink::Sink;
 use crate::stop::Stop;
 use std::alloc::{AllocError, Global};
+use tool_io::{Sink, put_all};
 
 pub(crate) const WRITE_FAULT: &[u8] = b"ktask: write fault\n";
 
@@ -18,7 +17,7 @@ const WANT_OF_MEMORY: &[u8] = b"ktask: want of memory\n";
 ///
 /// A line that names a file takes memory. Where there is none, want of memory is told in its place.
 pub fn refuse<E: Sink>(alloc: Global, stop: Stop, name: &str, err: &mut E) -> u8
-    ensures { Told stop name.now result (sink_seen E.taken E.faults err.old) (sink_seen E.taken E.faults err.new) }
+    ensures { Told stop name.now result (E.seen err.old) (E.seen err.new) }
 {
     let status = stop.status();
     match stop {
@@ -48,8 +47,8 @@ pub fn refuse<E: Sink>(alloc: Global, stop: Stop, name: &str, err: &mut E) -> u8
 // Tells the line, or want of memory where there was none to make it.
 fn tell_made<E: Sink>(status: u8, line: Result<String, AllocError>, err: &mut E) -> u8
     ensures made { IfOk line (λ text. (result ≡ status)
-        × Offers (sink_seen E.taken E.faults err.old) (sink_seen E.taken E.faults err.new) (string_bytes text)) }
-    ensures unmade { OnErr line (Tells WantOfMemory [] result (sink_seen E.taken E.faults err.old) (sink_seen E.taken E.faults err.new)) }
+        × Offers (E.seen err.old) (E.seen err.new) (string_bytes text)) }
+    ensures unmade { OnErr line (Tells WantOfMemory [] result (E.seen err.old) (E.seen err.new)) }
 {
     match line {
         Ok(text) => tell(status, text.as_bytes(), err),
@@ -60,7 +59,7 @@ fn tell_made<E: Sink>(status: u8, line: Result<String, AllocError>, err: &mut E)
 // Offers the line, and answers the status: a fault of `err` changes none.
 pub(crate) fn tell<E: Sink>(status: u8, line: &[u8], err: &mut E) -> u8
     ensures status { result ≡ status }
-    ensures line { Offers (sink_seen E.taken E.faults err.old) (sink_seen E.taken E.faults err.new) line.now }
+    ensures line { Offers (E.seen err.old) (E.seen err.new) line.now }
 {
     let _ = put_all(err, line);
     status

@@ -1,25 +1,22 @@
 ghost use Rattle.std.specs.Prelude.{◌≡◌, ◌≤◌, OnOk, OnErr, length};
 ghost use Rattle.std.specs.List.{list_any};
-ghost use Rattle.std.specs.Io.KnownBytes.{Appends};
 ghost use Rattle.task_syntax.specs.Form.{IsWellFormed};
-ghost use Rattle.ktask_cli.specs.Fault.{ErrOnlyByFault};
+ghost use Rattle.tool_io.specs.Fault.{ErrOnlyByFault};
 ghost use Rattle.ktask_cli.specs.Report.{report_of, root_line, status_of_ends, is_null, is_limit, is_trap};
-ghost use Rattle.ktask_cli.specs.Sink.{AppendsPrefix};
+ghost use Rattle.tool_io.specs.Sink.{Adds, AddsFront};
 
-use crate::error::Failed;
-use crate::put::put_all;
 use crate::root_line::made_line;
-use crate::sink::Sink;
 use plain_engine::{CutTag, PlainEnd, RootEnd};
 use task_syntax::{Name, Program, Value};
+use tool_io::{Failed, Sink, put_all};
 
 /// Writes how each root ended, a line for each in their order. A line with its end is one piece.
 pub fn write_report<O: Sink>(program: &Program, end: &PlainEnd, out: &mut O) -> Result<(), Failed>
     requires formed { IsWellFormed program.now }
     requires as_many { length end.now.roots ≡ length program.now.roots }
-    ensures ok { OnOk result (Appends (O.taken out.old) (O.taken out.new) (report_of program.now end.now)) }
-    ensures err { OnErr result (AppendsPrefix (O.taken out.old) (O.taken out.new) (report_of program.now end.now)) }
-    ensures cause { ErrOnlyByFault result (O.faults out.old) (O.faults out.new) }
+    ensures ok { OnOk result (Adds (O.seen out.old) (O.seen out.new) (report_of program.now end.now)) }
+    ensures err { OnErr result (AddsFront (O.seen out.old) (O.seen out.new) (report_of program.now end.now)) }
+    ensures cause { ErrOnlyByFault result (O.seen out.old).faults (O.seen out.new).faults }
 {
     let roots = program.roots.as_slice();
     'roots: for at in 0..end.root_count() {
@@ -31,9 +28,9 @@ pub fn write_report<O: Sink>(program: &Program, end: &PlainEnd, out: &mut O) -> 
 
 fn put_root<O: Sink>(name: &Name, end: RootEnd, out: &mut O) -> Result<(), Failed>
     requires { length name.now ≤ 24 }
-    ensures ok { OnOk result (Appends (O.taken out.old) (O.taken out.new) (root_line name.now end)) }
-    ensures err { OnErr result (AppendsPrefix (O.taken out.old) (O.taken out.new) (root_line name.now end)) }
-    ensures cause { ErrOnlyByFault result (O.faults out.old) (O.faults out.new) }
+    ensures ok { OnOk result (Adds (O.seen out.old) (O.seen out.new) (root_line name.now end)) }
+    ensures err { OnErr result (AddsFront (O.seen out.old) (O.seen out.new) (root_line name.now end)) }
+    ensures cause { ErrOnlyByFault result (O.seen out.old).faults (O.seen out.new).faults }
 {
     let line = made_line(name, end);
     put_all(out, line.as_bytes())

@@ -1,10 +1,10 @@
 ghost use Rattle.std.specs.Prelude.{◌≡◌, ◌≤◌, ◌++◌, length};
 ghost use Rattle.ktask_cli.specs.Report.{root_line, end_text, trap_text, cut_text};
 
-use crate::line::Line;
 use itoa::Buffer;
 use plain_engine::{CutTag, RootEnd};
 use task_syntax::{Name, Trap, Value};
+use tool_io::Line;
 
 fn trap_text(trap: Trap) -> &'static str
     ensures text { result.now ≡ trap_text trap }

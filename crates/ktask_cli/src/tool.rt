@@ -6,22 +6,20 @@ ghost use Rattle.ktask_cli.specs.Choice.{choice_of};
 ghost use Rattle.ktask_cli.specs.Ready.{input_under};
 ghost use Rattle.ktask_cli.specs.Outcome.{Runs, Reaches, Does, answer};
 ghost use Rattle.ktask_cli.specs.Statuses.{StatusHasCause};
-ghost use Rattle.ktask_cli.specs.Seen.{shelf_seen, sink_seen};
 ghost use Rattle.ktask_cli.specs.Stop.{named_for};
 
 use crate::choice::{Choice, Command, choose};
 use crate::input::{Input, fetch_input};
 use crate::outcome::Outcome;
-use crate::plain::plain_tool;
+use crate::plain::do_plain;
 use crate::refuse::refuse;
 use crate::report::{status_of_ends, write_report};
-use crate::sink::Sink;
 use crate::stop::{InputFile, Stop};
 use crate::write_text::status_written;
-use column_input::Shelf;
 use plain_engine::{PlainEnd, PlainRun};
 use std::alloc::Global;
 use task_syntax::Memory;
+use tool_io::{Shelf, Sink};
 
 /// What was run, and the end of its run.
 #[derive(Debug, Drop)]
@@ -32,7 +30,8 @@ struct Ran {
 
 /// Runs a program with its columns.
 fn run(alloc: Global, input: Input) -> Result<Ran, Stop>
-    ensures sound { IfOk result (λ ran. (ran.input ≡ input) × IsSoundEnd input.checked input.columns ran.end) }
+    ensures sound { IfOk result (λ ran.
+        (ran.input ≡ input) × IsSoundEnd input.checked input.columns ran.end) }
     ensures wants { IfErr result (λ stop. stop ≡ WantOfMemory) }
 {
     match PlainRun::run(alloc, &input.checked, &input.columns) {
@@ -49,7 +48,7 @@ fn reach<S: Shelf>(
     shelf: &mut S,
 ) -> Result<Ran, Stop>
     ensures follows { input_under program.now (option_copied columns.entry)
-        (shelf_seen S.holds S.last S.faults shelf.old) (shelf_seen S.holds S.last S.faults shelf.new)
+        (S.seen shelf.old) (S.seen shelf.new)
         (result_map_both (λ ran. (ran.input.checked, ran.input.columns)) (λ stop. stop) result) }
     ensures sound { IfOk result (λ ran. IsSoundEnd ran.input.checked ran.input.columns ran.end) }
 {
@@ -62,7 +61,8 @@ fn reach<S: Shelf>(
 /// Reports the end of a run on `out`, or the fault of `out` on `err`.
 fn report<O: Sink, E: Sink>(ran: Ran, out: &mut O, err: &mut E) -> Outcome
     requires { IsSoundEnd ran.input.checked ran.input.columns ran.end }
-    ensures { Runs (ran.input.checked, ran.input.columns) (answer result.status result.finished (sink_seen O.taken O.faults out.old) (sink_seen O.taken O.faults out.new) (sink_seen E.taken E.faults err.old) (sink_seen E.taken E.faults err.new)) }
+    ensures { Runs (ran.input.checked, ran.input.columns)
+        (answer result (O.seen out.old) (O.seen out.new) (E.seen err.old) (E.seen err.new)) }
 {
     let Ran { input, end } = ran;
     let written = write_report(input.checked.program(), &end, out);
@@ -94,9 +94,10 @@ fn run_program<S: Shelf, O: Sink, E: Sink>(
     out: &mut O,
     err: &mut E,
 ) -> Outcome
-    ensures { Reaches (input_under program.now (option_copied columns.entry)) Runs (named_for program.now (option_copied columns.entry))
-        (shelf_seen S.holds S.last S.faults shelf.old) (shelf_seen S.holds S.last S.faults shelf.new)
-        (answer result.status result.finished (sink_seen O.taken O.faults out.old) (sink_seen O.taken O.faults out.new) (sink_seen E.taken E.faults err.old) (sink_seen E.taken E.faults err.new)) }
+    ensures { Reaches (input_under program.now (option_copied columns.entry)) Runs
+        (named_for program.now (option_copied columns.entry))
+        (S.seen shelf.old) (S.seen shelf.new)
+        (answer result (O.seen out.old) (O.seen out.new) (E.seen err.old) (E.seen err.new)) }
 {
     match reach(alloc, program, columns, shelf) {
         Ok(ran) => report(ran, out, err),
@@ -107,32 +108,6 @@ fn run_program<S: Shelf, O: Sink, E: Sink>(
                 finished: None,
             }
         }
-    }
-}
-
-fn do_command<S: Shelf, O: Sink, E: Sink>(
-    alloc: Global,
-    words: &[String],
-    shelf: &mut S,
-    out: &mut O,
-    err: &mut E,
-) -> Outcome
-    ensures { Does (choice_of (map string_bytes words.now))
-        (shelf_seen S.holds S.last S.faults shelf.old) (shelf_seen S.holds S.last S.faults shelf.new)
-        (answer result.status result.finished (sink_seen O.taken O.faults out.old) (sink_seen O.taken O.faults out.new) (sink_seen E.taken E.faults err.old) (sink_seen E.taken E.faults err.new)) }
-{
-    match choose(words) {
-        Some(
-            Choice {
-                command: Command::Run,
-                program,
-                columns,
-            },
-        ) => run_program(alloc, program, columns, shelf, out, err),
-        _ => Outcome {
-            status: plain_tool(alloc, words, shelf, out, err),
-            finished: None,
-        },
     }
 }
 
@@ -151,11 +126,23 @@ pub fn run_tool<S: Shelf, O: Sink, E: Sink>(
     err: &mut E,
 ) -> Outcome
     ensures whole { Does (choice_of (map string_bytes words.now))
-        (shelf_seen S.holds S.last S.faults shelf.old) (shelf_seen S.holds S.last S.faults shelf.new)
-        (answer result.status result.finished (sink_seen O.taken O.faults out.old) (sink_seen O.taken O.faults out.new) (sink_seen E.taken E.faults err.old) (sink_seen E.taken E.faults err.new)) }
+        (S.seen shelf.old) (S.seen shelf.new)
+        (answer result (O.seen out.old) (O.seen out.new) (E.seen err.old) (E.seen err.new)) }
     ensures causes { StatusHasCause (choice_of (map string_bytes words.now))
-        (shelf_seen S.holds S.last S.faults shelf.old) (shelf_seen S.holds S.last S.faults shelf.new)
-        (answer result.status result.finished (sink_seen O.taken O.faults out.old) (sink_seen O.taken O.faults out.new) (sink_seen E.taken E.faults err.old) (sink_seen E.taken E.faults err.new)) }
+        (S.seen shelf.old) (S.seen shelf.new)
+        (answer result (O.seen out.old) (O.seen out.new) (E.seen err.old) (E.seen err.new)) }
 {
-    do_command(alloc, words, shelf, out, err)
+    match choose(words) {
+        Some(
+            Choice {
+                command: Command::Run,
+                program,
+                columns,
+            },
+        ) => run_program(alloc, program, columns, shelf, out, err),
+        choice => Outcome {
+            status: do_plain(alloc, choice, shelf, out, err),
+            finished: None,
+        },
+    }
 }

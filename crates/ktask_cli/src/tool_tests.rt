@@ -1,10 +1,9 @@
-use crate::memory_sink::MemorySink;
-use crate::out_sink::OutSink;
-use crate::tests::ByteWriter;
 use crate::{plain_tool, run_tool};
-use column_input::MemoryShelf;
 use std::alloc::{AllocError, Global};
+use std::io;
+use std::io::Write;
 use std::test::Fail;
+use tool_io::{MemoryShelf, MemorySink, OutSink};
 
 const ONE: &str = "ktask 1\nkind one\nstate start\n  done 1\nend\nroot r one\n";
 
@@ -309,14 +308,30 @@ fn shelf_of(alloc: Global, text: &str) -> Result<MemoryShelf, AllocError> {
     Ok(MemoryShelf::new(names, Vec::new(alloc)))
 }
 
+// Takes one byte at a time.
+#[derive(Drop)]
+struct ByteWriter {
+    taken: Vec<u8>,
+}
+
+impl Write for ByteWriter {
+    fn write(&mut self, buf: &[u8]) -> io::Result<usize> {
+        let first = &buf[..buf.len().min(1)];
+        self.taken.extend_from_slice(first)?;
+        Ok(first.len())
+    }
+
+    fn flush(&mut self) -> io::Result<()> {
+        Ok(())
+    }
+}
+
 #[test]
 fn a_sink_of_single_bytes_gets_the_whole_report(rt: HostRuntime) -> Result<(), Fail> {
     let mut shelf = shelf_of(rt.alloc(), TWO_ROOTS)?;
     let words = vec![in rt.alloc(); string_of(rt.alloc(), "run")?, string_of(rt.alloc(), "p")?]?;
     let mut out = OutSink::new(ByteWriter {
         taken: Vec::new(rt.alloc()),
-        writes: 0,
-        fails_at: 0,
     });
     let mut err = sink(rt.alloc(), &[])?;
     let outcome = run_tool(rt.alloc(), &words, &mut shelf, &mut out, &mut err);

@@ -1,5 +1,5 @@
 use Rattle.std.proofs.Common.{rules, Ok, Err}
-use Rattle.column_input.specs.declared.fetch_error.FetchError.TheVariants.{Failed, TooLong, Memory}
+use Rattle.tool_io.specs.declared.fetch_error.FetchError.TheVariants.{Failed, TooLong, Memory}
 use Rattle.ktask_cli.proofs.Plans.{content_fetched}
 use Rattle.ktask_cli.proofs.fetch_file.fetch_file.Goals as goal
 

@@ -1,5 +1,6 @@
-ghost use Rattle.std.specs.Prelude.{◌≡◌, ℕ, ◌<◌, ◌≤◌, [], Some, None, length, OnOk, OnErr, IfSome, IsErrOf, option_map};
-ghost use Rattle.column_input.specs.Fetch.{FailedOnlyByFault};
+ghost use Rattle.std.specs.Prelude.{◌≡◌, ◌≤◌, [], Some, None, length, OnOk, OnErr, IsErrOf, option_map};
+ghost use Rattle.tool_io.specs.Fetch.{FailedOnlyByFault};
+ghost use Rattle.tool_io.specs.Seen.{Holds, HoldsMore};
 
 use crate::count::{faults_after, is_listed, one_more};
 use crate::fetch_error::FetchError;
@@ -16,11 +17,12 @@ pub struct MemoryShelf {
 }
 
 impl MemoryShelf {
-    ghost use Rattle.column_input.specs.MemoryShelf.{Answers, bytes_under};
+    ghost use Rattle.tool_io.specs.MemoryShelf.{Answers, bytes_under};
 
     /// A shelf with these contents, of which no call was made yet.
     pub fn new(names: Vec<(String, Vec<u8>)>, fail: Vec<u64>) -> MemoryShelf
-        ensures { result ≡ record { names = names; fail = fail; calls = 0; faults = 0; last = None } }
+        ensures { result ≡
+            record { names = names; fail = fail; calls = 0; faults = 0; last = None } }
     {
         MemoryShelf {
             names,
@@ -64,21 +66,17 @@ impl MemoryShelf {
 }
 
 impl Shelf for MemoryShelf {
-    ghost use Rattle.column_input.specs.MemoryShelf.{Answers, Records, bytes_under};
+    ghost use Rattle.tool_io.specs.MemoryShelf.{Answers, Records, seen_of};
 
-    ghost holds = { bytes_under };
-
-    ghost last = { λ shelf. shelf.last };
-
-    ghost faults = { λ shelf. shelf.faults };
+    ghost seen = { seen_of };
 
     fn fetch(&mut self, name: &str, most: u64, into: &mut Vec<u8>) -> Result<(), FetchError>
         requires { into.old.items ≡ [] }
-        ensures content { OnOk result (IfSome (bytes_under self.old name.now) (λ bytes. into.new.items ≡ bytes)) }
+        ensures content { OnOk result (Holds (seen_of self.old) name.now into.new.items) }
         ensures short { OnOk result (length into.new.items ≤ most) }
-        ensures long { IsErrOf result FetchError.TooLong → IfSome (bytes_under self.old name.now) (λ bytes. most < length bytes) }
+        ensures long { IsErrOf result FetchError.TooLong → HoldsMore (seen_of self.old) name.now most }
         ensures empty { OnErr result (into.new.items ≡ []) }
-        ensures kept { bytes_under self.new ≡ bytes_under self.old }
+        ensures kept { (seen_of self.new).holds ≡ (seen_of self.old).holds }
         ensures told { self.new.last ≡ Some result }
         ensures cause { FailedOnlyByFault result self.old.faults self.new.faults }
 

@@ -1,6 +1,6 @@
 use Rattle.std.proofs.Common.{arith, ◌≡◌, ap, length}
-use Rattle.ktask_cli.proofs.Appended.{all_but_more}
-use Rattle.ktask_cli.proofs.put.put_all.Goals as goal
+use Rattle.tool_io.proofs.Appended.{all_but_more}
+use Rattle.tool_io.proofs.put.put_all.Goals as goal
 
 pub loop-rest-preserved : goal.loop-rest-preserved
 loop-rest-preserved g c = record {

@@ -3,10 +3,10 @@ ghost use Rattle.std.specs.Prelude.{◌≡◌, ◌≤◌, ◌+◌, ◌++◌, [],
 use arrayvec::ArrayVec;
 use std::marker::Model;
 
-/// A line of text, made in a buffer of fixed size.
-#[derive(Debug, Drop)]
-pub(crate) struct Line {
-    bytes: ArrayVec<u8, 96>,
+/// A line of text of at most 128 bytes, made in a buffer of fixed size. It takes no memory.
+#[derive(Drop)]
+pub struct Line {
+    bytes: ArrayVec<u8, 128>,
 }
 
 impl Model for Line {
@@ -21,7 +21,7 @@ impl Model for Line {
 }
 
 impl Line {
-    pub(crate) fn new() -> Line
+    pub fn new() -> Line
         ensures { result ≡ [] }
     {
         Line {
@@ -29,14 +29,14 @@ impl Line {
         }
     }
 
-    pub(crate) fn push(&mut self, text: &[u8])
-        requires { length self.old + length text.now ≤ 96 }
+    pub fn push(&mut self, text: &[u8])
+        requires { length self.old + length text.now ≤ 128 }
         ensures { self.new ≡ self.old ++ text.now }
     {
         let _ = self.bytes.try_extend_from_slice(text);
     }
 
-    pub(crate) fn as_bytes(&self) -> &[u8]
+    pub fn as_bytes(&self) -> &[u8]
         ensures { result.now ≡ self.now }
     {
         self.bytes.as_slice()

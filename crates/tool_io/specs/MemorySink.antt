@@ -1,8 +1,8 @@
 -- The sink in memory: how it is made, and what each call answers and leaves.
 use Rattle.std.specs.Prelude.{◌≡◌, ℕ, ◌+◌, ◌<◌, ◌⊎◌, List, [], length, Contains, Result, MatchResult, Vec}
 use Rattle.std.specs.declared.alloc.Global.{Global}
-use Rattle.ktask_cli.specs.declared.memory_sink.MemorySink.{MemorySink}
-use Rattle.column_input.specs.Count.{one_more}
+use Rattle.tool_io.specs.declared.memory_sink.MemorySink.{MemorySink}
+use Rattle.tool_io.specs.Count.{one_more}
 
 -- nothing was taken and no call was made
 pub record IsFresh (sink : MemorySink) (most : ℕ) (failing : Vec ℕ Global) : Type 0 where

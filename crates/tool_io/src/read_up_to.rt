@@ -1,5 +1,5 @@
 ghost use Rattle.std.specs.Prelude.{◌≡◌, ◌<◌, ◌≤◌, [], length, OnOk, OnErr, IfSome, IsErrOf};
-ghost use Rattle.column_input.specs.Fetch.{FailedOnlyByFault};
+ghost use Rattle.tool_io.specs.Fetch.{FailedOnlyByFault};
 
 use crate::count::one_more;
 use crate::fetch_error::FetchError;
@@ -15,7 +15,8 @@ pub(crate) fn read_up_to<R: Read>(
     requires { into.old.items ≡ [] }
     ensures content { OnOk result (IfSome (R.remaining reader.old) (λ bytes. into.new.items ≡ bytes)) }
     ensures short { OnOk result (length into.new.items ≤ most) }
-    ensures long { IsErrOf result FetchError.TooLong → IfSome (R.remaining reader.old) (λ bytes. most < length bytes) }
+    ensures long { IsErrOf result FetchError.TooLong →
+        IfSome (R.remaining reader.old) (λ bytes. most < length bytes) }
     ensures empty { OnErr result (into.new.items ≡ []) }
     ensures cause { FailedOnlyByFault result faults.old faults.new }
 {

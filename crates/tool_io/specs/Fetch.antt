@@ -1,8 +1,8 @@
 -- What a fetch says of the shelf's count of faults.
 use Rattle.std.specs.Prelude.{ℕ, ◌≤◌, Result, Ok, Err}
-use Rattle.column_input.specs.declared.fetch_error.FetchError.{FetchError}
-use Rattle.column_input.specs.declared.fetch_error.FetchError.TheVariants.{Failed, TooLong, Memory}
-use Rattle.column_input.specs.Count.{one_more, Rose}
+use Rattle.tool_io.specs.declared.fetch_error.FetchError.{FetchError}
+use Rattle.tool_io.specs.declared.fetch_error.FetchError.TheVariants.{Failed, TooLong, Memory}
+use Rattle.tool_io.specs.Count.{one_more, Rose}
 
 -- the count has not fallen, and `Failed` came only where it rose
 abbrev pub FailedOnlyByFault : {T : Type 0} → Result T FetchError → ℕ → ℕ → Type 0

@@ -1,11 +1,11 @@
 use Rattle.std.proofs.Common.{◌≡◌, [], ◌≤◌, length}
-use Rattle.ktask_cli.specs.Sink.{AppendsAllBut}
-use Rattle.ktask_cli.proofs.put.put_all.Given as goal
+use Rattle.tool_io.specs.Sink.{AppendsAllBut}
+use Rattle.tool_io.proofs.put.put_all.Given as goal
 
 abbrev pub invariant-loop-rest : goal.invariant-loop-rest
 invariant-loop-rest g l = record {
-  taken : AppendsAllBut (g.O.Sink.taken l.initial.out) (g.O.Sink.taken l.out) l.initial.rest l.rest;
-  never_fell : g.O.Sink.faults l.initial.out ≤ g.O.Sink.faults l.out;
+  taken : AppendsAllBut (g.O.Sink.seen l.initial.out).taken (g.O.Sink.seen l.out).taken l.initial.rest l.rest;
+  never_fell : (g.O.Sink.seen l.initial.out).faults ≤ (g.O.Sink.seen l.out).faults;
   unasked : l.initial.rest ≡ [] → (l.rest ≡ []) × (l.out ≡ l.initial.out);
 }
 

@@ -1,6 +1,6 @@
 -- Faults of the outside, told by a count that never falls.
 use Rattle.std.specs.Prelude.{ℕ, ◌≤◌, Result, MatchResult}
-use Rattle.column_input.specs.Count.{Rose}
+use Rattle.tool_io.specs.Count.{Rose}
 
 -- the count has not fallen, and an error came only where it rose
 abbrev pub ErrOnlyByFault : {T E : Type 0} → Result T E → ℕ → ℕ → Type 0

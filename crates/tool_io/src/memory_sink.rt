@@ -1,12 +1,12 @@
-ghost use Rattle.std.specs.Prelude.{◌≡◌, ℕ, ◌+◌, ◌<◌, ◌≤◌, ◌++◌, [], length, IfOk, Some, Contains, vec_capacity, vec_len, OnErr, IsTrue, IsFalse, ◌⊎◌};
+ghost use Rattle.std.specs.Prelude.{◌≡◌, ◌+◌, ◌<◌, ◌≤◌, length, IfOk, Some, Contains, vec_capacity, vec_len, OnErr, IsTrue, IsFalse, ◌⊎◌};
 ghost use Rattle.std.specs.Io.{WritesAtMost};
 ghost use Rattle.std.specs.Io.KnownBytes.{WriteAppends};
-ghost use Rattle.ktask_cli.specs.Fault.{ErrOnlyByFault};
-ghost use Rattle.column_input.specs.Count.{one_more};
+ghost use Rattle.tool_io.specs.Fault.{ErrOnlyByFault};
+ghost use Rattle.tool_io.specs.Count.{one_more};
 
-use crate::error::Failed;
+use crate::count::{is_listed, one_more};
+use crate::failed::Failed;
 use crate::sink::Sink;
-use column_input::{is_listed, one_more};
 use std::alloc::Global;
 use task_syntax::Memory;
 
@@ -23,7 +23,7 @@ pub struct MemorySink {
 }
 
 impl MemorySink {
-    ghost use Rattle.ktask_cli.specs.MemorySink.{IsFresh};
+    ghost use Rattle.tool_io.specs.MemorySink.{IsFresh};
 
     /// A sink that has taken nothing yet, with memory for `room` bytes.
     pub fn new(alloc: Global, room: u64, fail: Vec<u64>) -> Result<MemorySink, Memory>
@@ -42,9 +42,11 @@ impl MemorySink {
     }
 
     fn takes(&self, call: u64, piece: &[u8]) -> bool
-        ensures fits { IsTrue result → length self.now.bytes.items + length piece.now ≤ self.now.room }
+        ensures fits { IsTrue result →
+            length self.now.bytes.items + length piece.now ≤ self.now.room }
         ensures unlisted { IsTrue result → ¬ Contains self.now.fail.items call }
-        ensures refuses { IsFalse result → Contains self.now.fail.items call ⊎ (self.now.room < length self.now.bytes.items + length piece.now) }
+        ensures refuses { IsFalse result → Contains self.now.fail.items call
+            ⊎ (self.now.room < length self.now.bytes.items + length piece.now) }
     {
         let used = self.bytes.len() as u64;
         !is_listed(&self.fail, call) && piece.len() as u64 <= self.room - used
@@ -52,11 +54,9 @@ impl MemorySink {
 }
 
 impl Sink for MemorySink {
-    ghost use Rattle.ktask_cli.specs.MemorySink.{Fails, Counts};
+    ghost use Rattle.tool_io.specs.MemorySink.{Fails, Counts};
 
-    ghost taken = { λ sink. Some sink.bytes.items };
-
-    ghost faults = { λ sink. sink.faults };
+    ghost seen = { λ sink. record { taken = Some sink.bytes.items; faults = sink.faults } };
 
     fn put(&mut self, piece: &[u8]) -> Result<usize, Failed>
         ensures bound { WritesAtMost result piece.now }

@@ -1,6 +1,6 @@
 ghost use Rattle.std.specs.Prelude.{◌≡◌, ◌↔◌, IsTrue, Contains};
-ghost use Rattle.column_input.specs.Count.{one_more};
-ghost use Rattle.column_input.specs.Fetch.{faults_after};
+ghost use Rattle.tool_io.specs.Count.{one_more};
+ghost use Rattle.tool_io.specs.Fetch.{faults_after};
 
 use crate::fetch_error::FetchError;
 

@@ -1,5 +1,5 @@
 ghost use Rattle.std.specs.Prelude.{◌≡◌, None, [], length, ◌≤◌, OnOk, OnErr};
-ghost use Rattle.column_input.specs.Fetch.{FailedOnlyByFault};
+ghost use Rattle.tool_io.specs.Fetch.{FailedOnlyByFault};
 
 use crate::count::one_more;
 use crate::fetch_error::FetchError;
@@ -44,11 +44,7 @@ impl<'r, R: Files> FileShelf<'r, R> {
 }
 
 impl<'r, R: Files> Shelf for FileShelf<'r, R> {
-    ghost holds = { λ _ _. None };
-
-    ghost last = { λ shelf. shelf.last };
-
-    ghost faults = { λ shelf. shelf.faults };
+    ghost seen = { λ shelf. record { holds = λ _. None; last = shelf.last; faults = shelf.faults } };
 
     fn fetch(&mut self, name: &str, most: u64, into: &mut Vec<u8>) -> Result<(), FetchError> {
         let result = self.read_file(name, most, into);

@@ -1,8 +1,8 @@
-ghost use Rattle.std.specs.Prelude.{◌≡◌, ℕ, ◌<◌, length, IfOk};
+ghost use Rattle.std.specs.Prelude.{◌≡◌};
 
-use crate::error::Failed;
+use crate::count::one_more;
+use crate::failed::Failed;
 use crate::sink::Sink;
-use column_input::one_more;
 use std::io::Write;
 
 /// Any writer as a sink, which counts the writes that failed.
@@ -22,9 +22,7 @@ impl<W: Write> OutSink<W> {
 }
 
 impl<W: Write> Sink for OutSink<W> {
-    ghost taken = { λ sink. W.contents sink.writer };
-
-    ghost faults = { λ sink. sink.faults };
+    ghost seen = { λ sink. record { taken = W.contents sink.writer; faults = sink.faults } };
 
     fn put(&mut self, piece: &[u8]) -> Result<usize, Failed> {
         match self.writer.write(piece) {

@@ -1,11 +1,12 @@
 -- The shelf in memory: how it is made, and what each call answers and leaves.
 use Rattle.std.specs.Prelude.{◌≡◌, ℕ, ◌<◌, ◌≤◌, ◌⊎◌, List, length, Contains, Result, Ok, Err, Option, Some, IsNone, IsSomeAnd, String, Vec, string_bytes, bytes_eq, option_map, find}
 use Rattle.std.specs.declared.alloc.Global.{Global}
-use Rattle.column_input.specs.declared.fetch_error.FetchError.{FetchError}
-use Rattle.column_input.specs.declared.fetch_error.FetchError.TheVariants.{Failed, TooLong, Memory}
-use Rattle.column_input.specs.declared.memory_shelf.MemoryShelf.{MemoryShelf}
-use Rattle.column_input.specs.Count.{one_more}
-use Rattle.column_input.specs.Fetch.{faults_after}
+use Rattle.tool_io.specs.declared.fetch_error.FetchError.{FetchError}
+use Rattle.tool_io.specs.declared.fetch_error.FetchError.TheVariants.{Failed, TooLong, Memory}
+use Rattle.tool_io.specs.declared.memory_shelf.MemoryShelf.{MemoryShelf}
+use Rattle.tool_io.specs.Count.{one_more}
+use Rattle.tool_io.specs.Fetch.{faults_after}
+use Rattle.tool_io.specs.Seen.{ShelfSeen}
 
 -- the content of the first entry of this name
 abbrev pub first_under : List (String Global × Vec ℕ Global) → List ℕ → Option (List ℕ)
@@ -13,6 +14,9 @@ first_under entries name = option_map (λ entry. entry.1.items) (find (λ entry.
 
 abbrev pub bytes_under : MemoryShelf → List ℕ → Option (List ℕ)
 bytes_under shelf name = first_under shelf.names.items name
+
+abbrev pub seen_of : MemoryShelf → ShelfSeen
+seen_of shelf = record { holds = bytes_under shelf; last = shelf.last; faults = shelf.faults }
 
 -- the next call is one that is to fail
 abbrev pub IsToFail : MemoryShelf → Type 0
