@@ -31,3 +31,7 @@ pub mod NullsKept
 pub mod RankKept
 pub mod CausesKept
 pub mod RootsKept
+pub mod JournalKept
+pub mod AllFinish
+pub mod RunStands
+pub mod JournalGrows
