@@ -1,5 +1,5 @@
 -- When each exit status comes. Want of memory, 9, may come in the place of any of them but 2 and those of a run.
-use Rattle.std.specs.Prelude.{◌≡◌, ℕ, ◌<◌, ◌⊎◌, ◌↔◌, List, length, Option, Some, None, Ok, Err, IsOk, IsOkAnd, IsSome, IsSomeAnd, IfSome, IsTrue}
+use Rattle.std.specs.Prelude.{◌≡◌, ℕ, ◌⊎◌, ◌↔◌, List, Option, Some, None, Ok, Err, IsOk, IsOkAnd, IsSome, IsSomeAnd, IfSome, IsTrue}
 use Rattle.std.specs.List.{list_any}
 use Rattle.task_syntax.specs.Places.{Each}
 use Rattle.task_syntax.specs.Valid.{IsValid}
