@@ -1,0 +1,9 @@
+pub mod WrittenInParts
+pub mod CausePaths
+pub mod SoundEnds
+pub mod Names
+pub mod Held
+pub mod PathWritten
+pub mod TasksCounted
+pub mod WordsPushed
+pub mod CutWritten

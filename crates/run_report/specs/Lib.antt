@@ -1,0 +1,6 @@
+pub mod Lines
+pub mod Report
+pub mod CanReport
+pub mod CheckLines
+pub mod Writing
+pub mod Laws
