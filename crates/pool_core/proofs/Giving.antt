@@ -4,7 +4,7 @@ use Rattle.std.proofs.lemmas.Option.{slice_get_within, get_or_from_slice_get}
 use Rattle.claim_core.specs.Claims.{IsLowestClear}
 use Rattle.kt_words.specs.Capacity.{capacity}
 use Rattle.pool_core.specs.Choice.{IsChosen, Chooses}
-use Rattle.pool_core.specs.Pool.{PoolState, IsSound, with_superblock}
+use Rattle.pool_core.specs.Pool.{PoolState, IsSound, IsChosenFor, with_superblock}
 use Rattle.pool_core.specs.Superblocks.{SuperblockState, IsEmpty, IsKept, given}
 use Rattle.pool_core.proofs.Keeping.{IsKept_given}
 use Rattle.pool_core.proofs.Sound.{IsSound-with}
@@ -65,10 +65,8 @@ IsSound-given pool class place bit was sound fits ready lowest inside =
     IsSound-with pool place (given was class bit) sound (slice_get_within pool.superblocks place was ready.there)
     (IsKept_given pool.units class bit was ready.kept fits ready.of_class ready.below ready.few lowest.clear inside)
 
--- the same in the words of the call
-pub ready_from : (units room class place : ℕ) (looked items : List SuperblockState) (now : SuperblockState)
-    → IsSound (record { units = units; superblocks = items }) → class ≤ 3 → room ≡ capacity units class → looked ≡ items
-    → Chooses class room looked place → now ≡ get_or items place now → IsReady (record { units = units; superblocks = items }) class place now
-ready_from units room class place looked items now sound fits size same chosen read =
-    ready (record { units = units; superblocks = items }) class place now sound fits
-    (subst (λ xs. Chooses class (capacity units class) xs place) same (subst (λ r. Chooses class r looked place) size chosen)) read
+-- the same where the pool is seen in other words
+pub ready_seen : {seen pool : PoolState} (class place : ℕ) {now : SuperblockState} → seen ≡ pool → IsSound seen → class ≤ 3
+    → IsChosenFor pool class place → now ≡ get_or seen.superblocks place now → IsReady seen class place now
+ready_seen {seen} {pool} class place {now} same sound fits chosen read =
+    ready seen class place now sound fits (subst (λ (p : PoolState). IsChosenFor p class place) (sym same) chosen) read

@@ -3,9 +3,12 @@ pub mod Choosing
 pub mod Counting
 pub mod Keeping
 pub mod Giving
+pub mod Given
 pub mod Places
 pub mod Sound
+pub mod SuperblockSets
 pub mod Taking
+pub mod VacancyFacts
 pub mod Units
 pub mod OneAnswer
 pub mod EitherAnswer

@@ -1,9 +1,9 @@
 -- The superblock of a block that is out, and the pool after it was taken back.
-use Rattle.std.proofs.Common.{◌≡◌, ℕ, ◌/◌, ◌%◌, List, get_or, ◌∙◌, ap}
+use Rattle.std.proofs.Common.{◌≡◌, ℕ, ◌/◌, ◌%◌, List, get_or, sym, ◌∙◌, ap, subst}
 use Rattle.std.proofs.lemmas.Option.{slice_get_within, get_or_from_slice_get}
 use Rattle.kt_words.specs.Capacity.{block_units}
 use Rattle.pool_core.specs.Blocks.{BlockState}
-use Rattle.pool_core.specs.Pool.{PoolState, IsOutAt, IsSound, with_superblock}
+use Rattle.pool_core.specs.Pool.{PoolState, IsOut, IsOutAt, IsSound, with_superblock}
 use Rattle.pool_core.specs.Superblocks.{SuperblockState, taken_back}
 use Rattle.pool_core.proofs.Keeping.{IsKept_taken_back}
 use Rattle.pool_core.proofs.Sound.{IsSound-with}
@@ -47,3 +47,13 @@ found units items block place bit now superblock unit unit_again class sound out
       bit_is = ap (λ u. u % units / block_units class) is_again ∙ ap (λ k. block.unit % units / block_units k) is_class ∙ bit_of pool block place bit superblock sound out;
       now_is = read ∙ ap (λ k. get_or items k now) at ∙ get_or_from_slice_get items place superblock now out.there;
     }
+
+-- the same where the pool is seen in other words
+pub out_seen : {seen pool : PoolState} {block : BlockState} (out : IsOut pool block) → seen ≡ pool → IsOutAt seen block out.place out.bit out.superblock
+out_seen {seen} {pool} {block} out same = subst (λ (p : PoolState). IsOutAt p block out.place out.bit out.superblock) (sym same) out.at
+
+pub found_seen : {seen pool : PoolState} {block : BlockState} (out : IsOut pool block) {unit unit_again class : ℕ} {now : SuperblockState} → seen ≡ pool → IsSound seen
+    → unit ≡ block.unit → unit_again ≡ block.unit → class ≡ block.class → now ≡ get_or seen.superblocks (unit / seen.units) now
+    → IsFound seen.units unit unit_again class out.place out.bit now out.superblock
+found_seen {seen} {pool} {block} out {unit} {unit_again} {class} {now} same sound =
+    found seen.units seen.superblocks block out.place out.bit now out.superblock unit unit_again class sound (out_seen out same)

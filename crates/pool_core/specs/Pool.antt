@@ -4,7 +4,7 @@ use Rattle.claim_core.specs.Claims.{IsSet, IsLowestClear}
 use Rattle.kt_words.specs.Capacity.{block_units, capacity}
 use Rattle.kt_words.specs.Ranges.{IsUnitCount}
 use Rattle.pool_core.specs.Blocks.{BlockState, block_at, HasUnit}
-use Rattle.pool_core.specs.Choice.{Each, IsChosen, IsWithoutRoom}
+use Rattle.pool_core.specs.Choice.{Each, IsChosen, Chooses, IsWithoutRoom}
 use Rattle.pool_core.specs.Superblocks.{SuperblockState, given, taken_back, unused, IsKept}
 
 -- how many units each superblock has, and the superblocks in their order
@@ -59,6 +59,10 @@ pub record TakesBack (old : PoolState) (block : BlockState) (new : PoolState) : 
   pub place_is : place ≡ block.unit / old.units
   pub bit_is : bit ≡ block.unit % old.units / block_units block.class
   pub after : new ≡ with_superblock old place (taken_back was bit)
+
+-- a block of the class is given from this superblock
+abbrev pub IsChosenFor : PoolState → ℕ → ℕ → Type 0
+IsChosenFor pool class place = Chooses class (capacity pool.units class) pool.superblocks place
 
 -- no superblock has room for a block of the class
 abbrev pub HasNoRoom : PoolState → ℕ → Type 0

@@ -2,12 +2,13 @@
 #![tactic(auto)]
 
 mod block;
-mod choice;
 mod laws;
 mod plain_pool;
 mod superblock;
+mod superblock_set;
 #[cfg(test)]
 mod tests;
+mod vacancies;
 
 pub use block::Block;
 pub use laws::{

@@ -1,11 +1,11 @@
 ghost use Rattle.std.specs.Prelude.{◌≡◌, ◌↔◌, ℕ, ◌^◌, ◌<◌, ◌≤◌, IfOk, IsNone, IfNone, IfSome, Some, length, slice_get};
 ghost use Rattle.kt_words.specs.SuperWords.{FitsSuperWord};
 ghost use Rattle.pool_core.specs.Blocks.{BlockState};
-ghost use Rattle.pool_core.specs.Pool.{unused_pool, IsOut, Gives, Adds, TakesBack, Removes, HasNoRoom, IsSound};
+ghost use Rattle.pool_core.specs.Pool.{unused_pool, IsOut, IsChosenFor, Gives, Adds, TakesBack, Removes, HasNoRoom, IsSound};
 
 use crate::block::Block;
-use crate::choice::choose;
 use crate::superblock::Superblock;
+use crate::vacancies::Vacancies;
 use kt_words::{Geometry, SuperWord};
 use std::alloc::{AllocError, Global};
 use std::marker::Model;
@@ -15,17 +15,20 @@ use std::marker::Model;
 pub struct PlainPool {
     geometry: Geometry,
     superblocks: Vec<Superblock>,
+    vacancies: Vacancies,
 }
 
 impl Model for PlainPool {
     ghost use Rattle.std.specs.Prelude.{◌≡◌, length};
     ghost use Rattle.pool_core.specs.Pool.{PoolState, IsSound};
+    ghost use Rattle.pool_core.specs.VacancyInvariant.{AreVacancies};
 
     ghost Value = { PoolState };
 
     ghost view = { λ p. record { units = p.geometry.units; superblocks = p.superblocks.items } };
 
-    ghost invariant = { λ p. IsSound (record { units = p.geometry.units; superblocks = p.superblocks.items }) };
+    ghost invariant = { λ p. IsSound (record { units = p.geometry.units; superblocks = p.superblocks.items })
+        × AreVacancies p.geometry.units p.superblocks.items p.vacancies };
 }
 
 impl PlainPool {
@@ -42,6 +45,7 @@ impl PlainPool {
         Ok(PlainPool {
             geometry,
             superblocks,
+            vacancies: Vacancies::new(geometry.superblocks),
         })
     }
 
@@ -56,12 +60,34 @@ impl PlainPool {
         ensures adds { IfSome result (λ block. Adds self.old block self.new) }
         ensures sound { IsSound self.new }
     {
+        let superblock = self.choose(class)?;
+        Some(self.give(superblock, class))
+    }
+
+    // The first superblock of the class with room, or else the first empty one.
+    fn choose(&self, class: u8) -> Option<u32>
+        requires { class ≤ 3 }
+        ensures chosen { IfSome result (λ superblock. IsChosenFor self.now class superblock) }
+        ensures none { IsNone result ↔ HasNoRoom self.now class }
+        ensures sound { IsSound self.now }
+    {
+        self.vacancies.choose(class)
+    }
+
+    // Gives a block of the class from the superblock that is chosen for it.
+    fn give(&mut self, superblock: u32, class: u8) -> Block
+        requires class { class ≤ 3 }
+        requires chosen { IsChosenFor self.old class superblock }
+        ensures { Gives self.old class result self.new }
+    {
         let room = self.geometry.cap(class);
-        let place = choose(self.superblocks.as_slice(), class, room)?;
-        let superblock = &mut self.superblocks[place];
-        let bit = superblock.give(class, room);
-        let unit = place as u32 * self.geometry.units + (bit << class);
-        Some(Block::new(unit, class))
+        let state = &mut self.superblocks[superblock as usize];
+        let was = state.class();
+        let bit = state.give(class, room);
+        let has_room = state.has_room(class, room);
+        self.vacancies.note(superblock, was, class, has_room, false);
+        let unit = superblock * self.geometry.units + (bit << class);
+        Block::new(unit, class)
     }
 
     /// Takes back a block that this pool gave and that is still out.
@@ -72,10 +98,13 @@ impl PlainPool {
         ensures removes { Removes self.old block self.new }
         ensures sound { IsSound self.new }
     {
+        let class = block.class();
         let place = block.unit() / self.geometry.units;
-        let bit = block.unit() % self.geometry.units >> block.class();
+        let bit = block.unit() % self.geometry.units >> class;
         let superblock = &mut self.superblocks[place as usize];
         superblock.take_back(bit);
+        let is_empty = superblock.is_empty();
+        self.vacancies.note(place, class, class, true, is_empty);
     }
 
     /// What every pool keeps: it is found here by a caller that was handed one.

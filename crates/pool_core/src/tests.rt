@@ -32,3 +32,27 @@ fn full_in_its_class(rt: HostRuntime) -> Result<(), Fail> {
     assert!(rt; pool.allocate(3).is_none());
     Ok(())
 }
+
+#[test]
+fn the_first_with_room_gives(rt: HostRuntime) -> Result<(), Fail> {
+    let geometry = Geometry::new(130, 8).ok_or("no geometry")?;
+    let mut pool = PlainPool::new(rt.alloc(), geometry)?;
+    for superblock in 0..130 {
+        let whole = pool.allocate(3).ok_or("no room")?;
+        assert_eq!(rt; whole.unit(), 8 * superblock);
+        if superblock == 70 {
+            pool.release(whole);
+            let half = pool.allocate(2).ok_or("no room")?;
+            assert_eq!(rt; half.unit(), 560);
+        }
+    }
+    assert!(rt; pool.allocate(3).is_none());
+    assert!(rt; pool.allocate(1).is_none());
+    let half = pool.allocate(2).ok_or("no room")?;
+    assert_eq!(rt; (half.unit(), pool.count(70)), (564, 2));
+    pool.release(half);
+    let again = pool.allocate(2).ok_or("no room")?;
+    assert_eq!(rt; again.unit(), 564);
+    assert!(rt; pool.allocate(2).is_none());
+    Ok(())
+}

@@ -1,53 +1,81 @@
-use Rattle.std.proofs.Common.{refl, sym, subst}
-use Rattle.pool_core.specs.Pool.{PoolState, IsOutAt}
+use Rattle.std.proofs.Common.{◌≡◌, refl, sym, ◌∙◌, ap, subst, arith}
+use Rattle.std.proofs.lemmas.Option.{slice_get_within}
+use Rattle.pool_core.specs.Pool.{PoolState}
+use Rattle.pool_core.specs.Blocks.{BlockState}
+use Rattle.pool_core.specs.Superblocks.{SuperblockState, taken_back}
 use Rattle.pool_core.proofs.Out.{Removes-taken_back}
-use Rattle.pool_core.proofs.Taking.{found, place_of, bit_of, IsSound-taken_back}
+use Rattle.pool_core.proofs.Taking.{out_seen, found_seen, place_of, bit_of, IsSound-taken_back}
+use Rattle.pool_core.proofs.VacancyFacts.{vacancies_taken_back}
 use Rattle.pool_core.proofs.plain_pool.PlainPool.release.Goals as goal
 
 pub take_back-requires-clause-counted : goal.take_back-requires-clause-counted
 take_back-requires-clause-counted c =
-    let out = subst (λ (p : PoolState). IsOutAt p c.args.block c.requires.place c.requires.bit c.requires.superblock) (sym c.self.view_is) c.requires.at in
-    let at = found c.self.inside.geometry.units c.self.inside.superblocks.items c.args.block c.requires.place c.requires.bit c.index_mut-superblock.result.now c.requires.superblock c.unit.result c.unit-2.result c.class.result c.self.invariant out c.unit.ensures c.unit-2.ensures c.class.ensures c.index_mut-superblock.ensures.value in
-    rw at.now_is (c.self.invariant.kept c.requires.place c.requires.superblock out.there).counted
+    let out = out_seen c.requires c.self.view_is in
+    let at = found_seen c.requires c.self.view_is c.self.invariant.0 c.unit.ensures c.unit-2.ensures c.class-class.ensures c.index_mut-superblock.ensures.value in
+    rw at.now_is (c.self.invariant.0.kept c.requires.place c.requires.superblock out.there).counted
 
 pub take_back-requires-clause-out : goal.take_back-requires-clause-out
 take_back-requires-clause-out c =
-    let out = subst (λ (p : PoolState). IsOutAt p c.args.block c.requires.place c.requires.bit c.requires.superblock) (sym c.self.view_is) c.requires.at in
-    let at = found c.self.inside.geometry.units c.self.inside.superblocks.items c.args.block c.requires.place c.requires.bit c.index_mut-superblock.result.now c.requires.superblock c.unit.result c.unit-2.result c.class.result c.self.invariant out c.unit.ensures c.unit-2.ensures c.class.ensures c.index_mut-superblock.ensures.value in
+    let out = out_seen c.requires c.self.view_is in
+    let at = found_seen c.requires c.self.view_is c.self.invariant.0 c.unit.ensures c.unit-2.ensures c.class-class.ensures c.index_mut-superblock.ensures.value in
     rw (at.now_is, at.bit_is) out.is_set
+
+pub note-requires-clause-superblock : goal.note-requires-clause-superblock
+note-requires-clause-superblock c =
+    let out = out_seen c.requires c.self.view_is in
+    let at = found_seen c.requires c.self.view_is c.self.invariant.0 c.unit.ensures c.unit-2.ensures c.class-class.ensures c.index_mut-superblock.ensures.value in
+    omega (arith, at.place_is, slice_get_within c.self.inside.superblocks.items c.requires.place c.requires.superblock out.there, c.self.invariant.0.few)
+
+pub note-requires-clause-was : goal.note-requires-clause-was
+note-requires-clause-was c =
+    let out = out_seen c.requires c.self.view_is in
+    let class : c.class-class.result ≡ c.requires.superblock.class = c.class-class.ensures ∙ ap (λ (b : BlockState). b.class) out.block_is in
+    omega (arith, class, (c.self.invariant.0.kept c.requires.place c.requires.superblock out.there).class_fits)
+
+pub note-requires-clause-class : goal.note-requires-clause-class
+note-requires-clause-class c =
+    let out = out_seen c.requires c.self.view_is in
+    let class : c.class-class.result ≡ c.requires.superblock.class = c.class-class.ensures ∙ ap (λ (b : BlockState). b.class) out.block_is in
+    omega (arith, class, (c.self.invariant.0.kept c.requires.place c.requires.superblock out.there).class_fits)
 
 pub invariant_of-self : goal.invariant_of-self
 invariant_of-self c =
-    let out = subst (λ (p : PoolState). IsOutAt p c.args.block c.requires.place c.requires.bit c.requires.superblock) (sym c.self.view_is) c.requires.at in
-    let at = found c.self.inside.geometry.units c.self.inside.superblocks.items c.args.block c.requires.place c.requires.bit c.index_mut-superblock.result.now c.requires.superblock c.unit.result c.unit-2.result c.class.result c.self.invariant out c.unit.ensures c.unit-2.ensures c.class.ensures c.index_mut-superblock.ensures.value in
-    rw (at.place_is, c.take_back.ensures, at.now_is, at.bit_is)
-    (IsSound-taken_back (record { units = c.self.inside.geometry.units; superblocks = c.self.inside.superblocks.items }) c.args.block c.requires.place c.requires.bit c.requires.superblock c.self.invariant out)
+    let out = out_seen c.requires c.self.view_is in
+    let at = found_seen c.requires c.self.view_is c.self.invariant.0 c.unit.ensures c.unit-2.ensures c.class-class.ensures c.index_mut-superblock.ensures.value in
+    let after : c.take_back.new.self ≡ taken_back c.requires.superblock c.requires.bit = rw (c.take_back.ensures, at.now_is, at.bit_is) refl in (
+      rw (at.place_is, after)
+          (IsSound-taken_back (record { units = c.self.inside.geometry.units; superblocks = c.self.inside.superblocks.items }) c.args.block c.requires.place c.requires.bit c.requires.superblock c.self.invariant.0 out),
+      rw (c.note.ensures, at.place_is)
+          (vacancies_taken_back c.self.inside.geometry.units c.requires.place c.class-class.result c.requires.bit c.self.inside.superblocks.items c.self.inside.vacancies
+          c.requires.superblock c.take_back.new.self c.is_empty-is_empty.result c.self.invariant.1 c.self.invariant.0 out.there out.is_set
+          (c.class-class.ensures ∙ ap (λ (b : BlockState). b.class) out.block_is) after c.is_empty-is_empty.ensures),
+    )
 
 pub returns-clause-back : goal.returns-clause-back
 returns-clause-back c =
-    let out = subst (λ (p : PoolState). IsOutAt p c.args.block c.requires.place c.requires.bit c.requires.superblock) (sym c.self.view_is) c.requires.at in
-    let at = found c.self.inside.geometry.units c.self.inside.superblocks.items c.args.block c.requires.place c.requires.bit c.index_mut-superblock.result.now c.requires.superblock c.unit.result c.unit-2.result c.class.result c.self.invariant out c.unit.ensures c.unit-2.ensures c.class.ensures c.index_mut-superblock.ensures.value in
+    let out = out_seen c.requires c.self.view_is in
+    let at = found_seen c.requires c.self.view_is c.self.invariant.0 c.unit.ensures c.unit-2.ensures c.class-class.ensures c.index_mut-superblock.ensures.value in
     let pool : PoolState = record { units = c.self.inside.geometry.units; superblocks = c.self.inside.superblocks.items } in
     rw (← c.self.view_is) (record {
       place = c.requires.place;
       bit = c.requires.bit;
       was = c.requires.superblock;
       out = out;
-      place_is = sym (place_of pool c.args.block c.requires.place c.requires.bit c.requires.superblock c.self.invariant out);
-      bit_is = sym (bit_of pool c.args.block c.requires.place c.requires.bit c.requires.superblock c.self.invariant out);
+      place_is = sym (place_of pool c.args.block c.requires.place c.requires.bit c.requires.superblock c.self.invariant.0 out);
+      bit_is = sym (bit_of pool c.args.block c.requires.place c.requires.bit c.requires.superblock c.self.invariant.0 out);
       after = rw (at.place_is, c.take_back.ensures, at.now_is, at.bit_is) refl;
     })
 
 pub returns-clause-removes : goal.returns-clause-removes
 returns-clause-removes c =
-    let out = subst (λ (p : PoolState). IsOutAt p c.args.block c.requires.place c.requires.bit c.requires.superblock) (sym c.self.view_is) c.requires.at in
-    let at = found c.self.inside.geometry.units c.self.inside.superblocks.items c.args.block c.requires.place c.requires.bit c.index_mut-superblock.result.now c.requires.superblock c.unit.result c.unit-2.result c.class.result c.self.invariant out c.unit.ensures c.unit-2.ensures c.class.ensures c.index_mut-superblock.ensures.value in
+    let out = out_seen c.requires c.self.view_is in
+    let at = found_seen c.requires c.self.view_is c.self.invariant.0 c.unit.ensures c.unit-2.ensures c.class-class.ensures c.index_mut-superblock.ensures.value in
     rw (← c.self.view_is, at.place_is, c.take_back.ensures, at.now_is, at.bit_is)
-    (Removes-taken_back (record { units = c.self.inside.geometry.units; superblocks = c.self.inside.superblocks.items }) c.args.block c.requires.place c.requires.bit c.requires.superblock c.self.invariant out)
+    (Removes-taken_back (record { units = c.self.inside.geometry.units; superblocks = c.self.inside.superblocks.items }) c.args.block c.requires.place c.requires.bit c.requires.superblock c.self.invariant.0 out)
 
 pub returns-clause-sound : goal.returns-clause-sound
 returns-clause-sound c =
-    let out = subst (λ (p : PoolState). IsOutAt p c.args.block c.requires.place c.requires.bit c.requires.superblock) (sym c.self.view_is) c.requires.at in
-    let at = found c.self.inside.geometry.units c.self.inside.superblocks.items c.args.block c.requires.place c.requires.bit c.index_mut-superblock.result.now c.requires.superblock c.unit.result c.unit-2.result c.class.result c.self.invariant out c.unit.ensures c.unit-2.ensures c.class.ensures c.index_mut-superblock.ensures.value in
+    let out = out_seen c.requires c.self.view_is in
+    let at = found_seen c.requires c.self.view_is c.self.invariant.0 c.unit.ensures c.unit-2.ensures c.class-class.ensures c.index_mut-superblock.ensures.value in
     rw (at.place_is, c.take_back.ensures, at.now_is, at.bit_is)
-    (IsSound-taken_back (record { units = c.self.inside.geometry.units; superblocks = c.self.inside.superblocks.items }) c.args.block c.requires.place c.requires.bit c.requires.superblock c.self.invariant out)
+    (IsSound-taken_back (record { units = c.self.inside.geometry.units; superblocks = c.self.inside.superblocks.items }) c.args.block c.requires.place c.requires.bit c.requires.superblock c.self.invariant.0 out)
