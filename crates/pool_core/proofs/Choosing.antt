@@ -1,5 +1,5 @@
 -- When a superblock has room, is empty, or is without room.
-use Rattle.std.proofs.Common.{◌≡◌, ℕ, ◌<◌, ◌≤◌, List, inl, inr, ⊎_elim, arith}
+use Rattle.std.proofs.Common.{ℕ, ◌<◌, List, inl, inr, ⊎_elim, arith}
 use Rattle.std.proofs.lemmas.Bool.{cases_eq, cases_lt}
 use Rattle.pool_core.specs.Choice.{Each, Chooses, IsWithoutRoom}
 use Rattle.pool_core.specs.Superblocks.{SuperblockState, HasRoom, IsEmpty}

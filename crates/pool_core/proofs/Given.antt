@@ -1,9 +1,8 @@
 -- A pool after a block was given: it is sound, and one more block is out.
-use Rattle.std.proofs.Common.{◌≡◌, ℕ, ◌<◌, ◌≤◌, Bool, List, sym, subst, arith}
-use Rattle.claim_core.specs.Claims.{set_count, IsSet, IsLowestClear}
+use Rattle.std.proofs.Common.{ℕ, ◌<◌, ◌≤◌, sym, subst, arith}
 use Rattle.claim_core.proofs.Counted.{le-set_count}
 use Rattle.kt_words.specs.Capacity.{capacity}
-use Rattle.pool_core.specs.Blocks.{BlockState, block_at}
+use Rattle.pool_core.specs.Blocks.{BlockState}
 use Rattle.pool_core.specs.Pool.{PoolState, IsSound, Gives, Adds, with_superblock}
 use Rattle.pool_core.specs.Superblocks.{given}
 use Rattle.pool_core.proofs.Giving.{IsReady, ready_at, IsSound-given}

@@ -1,14 +1,13 @@
 -- Sets of superblocks as bits of words.
-use Rattle.std.proofs.Common.{◌≡◌, ◌≢◌, ◌↔◌, ℕ, ◌+◌, ◌*◌, ◌^◌, ◌/◌, ◌%◌, ◌<◌, ◌≤◌, Bool, true, false, List, ◌==◌, Some, Fits, length, slice_get, get_or, set, refl, sym, ◌∙◌, ap, subst, ⊎_elim, arith, length-set}
+use Rattle.std.proofs.Common.{◌≡◌, ℕ, ◌+◌, ◌*◌, ◌/◌, ◌%◌, ◌<◌, ◌≤◌, Bool, true, false, List, ◌==◌, Some, slice_get, get_or, sym, ◌∙◌, ap, subst, ⊎_elim, arith}
 use Rattle.std.specs.Int.{bit_at}
-use Rattle.std.proofs.lemmas.Bool.{cases_eq, cases_lt, false≢true}
+use Rattle.std.proofs.lemmas.Bool.{cases_lt, false≢true}
 use Rattle.std.proofs.lemmas.Nat.Bits.{bit_at-zero}
 use Rattle.std.proofs.lemmas.Option.{same_Some, slice_get_within}
 use Rattle.claim_core.specs.Bits.{is_one, first_bits}
 use Rattle.claim_core.specs.Claims.{IsSet}
 use Rattle.claim_core.proofs.FirstBits.{length-first_bits, slice_get-first_bits, first_bits-none}
-use Rattle.pool_core.specs.Vacancies.{AreBelow, IsFirstSet, IsNoneSet}
-use Rattle.pool_core.proofs.Places.{slice_get-set_same, slice_get-set_other}
+use Rattle.pool_core.specs.Vacancies.{IsFirstSet, IsNoneSet}
 use Rattle.pool_core.proofs.Sound.{same_in_replicate}
 
 -- a bit that is set is one of the words' bits

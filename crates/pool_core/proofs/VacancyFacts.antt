@@ -4,7 +4,7 @@ use Rattle.std.proofs.lemmas.Bool.{cases_eq, false≢true}
 use Rattle.std.proofs.lemmas.Option.{same_Some, slice_get_within, slice_get-get_or}
 use Rattle.claim_core.specs.Claims.{IsSet}
 use Rattle.kt_words.specs.Capacity.{capacity}
-use Rattle.pool_core.specs.Choice.{Each, NoneBefore, IsFirst, Chooses, IsWithoutRoom}
+use Rattle.pool_core.specs.Choice.{Each, IsFirst, Chooses, IsWithoutRoom}
 use Rattle.pool_core.specs.Pool.{PoolState, IsSound, IsChosenFor, HasNoRoom}
 use Rattle.pool_core.specs.Superblocks.{SuperblockState, HasRoom, IsEmpty, given, taken_back, unused}
 use Rattle.pool_core.specs.Vacancies.{IsNoneSet, IsFirstSet, room_set, IsFirstVacancy, with_room_noted, noted, AreBelow, AreUnusedVacancies}

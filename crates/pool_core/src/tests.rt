@@ -49,7 +49,7 @@ fn the_first_with_room_gives(rt: HostRuntime) -> Result<(), Fail> {
     assert!(rt; pool.allocate(3).is_none());
     assert!(rt; pool.allocate(1).is_none());
     let half = pool.allocate(2).ok_or("no room")?;
-    assert_eq!(rt; (half.unit(), pool.count(70)), (564, 2));
+    assert_eq!(rt; half.unit(), 564);
     pool.release(half);
     let again = pool.allocate(2).ok_or("no room")?;
     assert_eq!(rt; again.unit(), 564);

@@ -1,8 +1,8 @@
-use Rattle.std.proofs.Common.{◌≡◌, refl, sym, ◌∙◌, ap, subst, arith}
+use Rattle.std.proofs.Common.{◌≡◌, refl, sym, ◌∙◌, ap, arith}
 use Rattle.std.proofs.lemmas.Option.{slice_get_within}
 use Rattle.pool_core.specs.Pool.{PoolState}
 use Rattle.pool_core.specs.Blocks.{BlockState}
-use Rattle.pool_core.specs.Superblocks.{SuperblockState, taken_back}
+use Rattle.pool_core.specs.Superblocks.{taken_back}
 use Rattle.pool_core.proofs.Out.{Removes-taken_back}
 use Rattle.pool_core.proofs.Taking.{out_seen, found_seen, place_of, bit_of, IsSound-taken_back}
 use Rattle.pool_core.proofs.VacancyFacts.{vacancies_taken_back}
