@@ -1,18 +1,18 @@
 -- A further activation keeps the journal.
-use Rattle.std.proofs.Common.{◌≡◌, ◌≢◌, ◌⊎◌, ◌∙◌, inl, inr, ℕ, zero, suc, ◌+◌, ◌≤◌, ◌<◌, Option, Some, None, List, [], ◌∷◌, ◌++◌, length, refl, sym, ap, subst, arith}
+use Rattle.std.proofs.Common.{◌≡◌, ◌⊎◌, ◌∙◌, inl, inr, ℕ, suc, ◌≤◌, ◌<◌, Option, Some, None, List, [], ◌∷◌, ◌++◌, length, refl, sym, ap, subst, arith}
 use Rattle.std.specs.Prelude.{IsSome, IfSome}
 use Rattle.std.proofs.Math.ListN.{length-append}
 use Rattle.record_core.specs.Numbers.{by_number, HasTask}
-use Rattle.record_core.specs.Journal.{JournalState, task_or, next_number, unfinished, with_accepted, start_in, start_of, finish_in, finish_of, cause_in, cause_of, starts, finishes, Event, Starts, Finishes, stamp_of, AreInOrder, IsOfTask, AreOfTasks, Leads, IsJournal, HasAllBegun, IsUnderWay}
-use Rattle.record_core.specs.JournalLaws.{GrowsFrom, TellsAccepted}
+use Rattle.record_core.specs.Journal.{JournalState, task_or, next_number, unfinished, with_accepted, start_in, start_of, finish_in, finish_of, cause_in, cause_of, Event, Starts, Finishes, stamp_of, IsOfTask, AreOfTasks, Leads, IsJournal, HasAllBegun, IsUnderWay}
+use Rattle.record_core.specs.JournalLaws.{TellsAccepted}
 use Rattle.record_core.specs.declared.rows.ActivationRow.{ActivationRow}
 use Rattle.record_core.specs.declared.rows.TaskRow.{TaskRow}
-use Rattle.record_core.specs.declared.rows.Cause.TheVariants.{Clear, By}
+use Rattle.record_core.specs.declared.rows.Cause.TheVariants.{By}
 use Rattle.record_core.specs.declared.rows.CutTag.{CutTag}
-use Rattle.record_core.proofs.TotalFacts.{none_there, total-snoc}
+use Rattle.record_core.proofs.TotalFacts.{total-snoc}
 use Rattle.record_core.proofs.NumberFacts.{number-in_range, number-old, number-new, number-cases}
 use Rattle.record_core.proofs.StampFacts.{stamped-same}
-use Rattle.record_core.proofs.LeadFacts.{IsKept, leads-kept}
+use Rattle.record_core.proofs.LeadFacts.{leads-kept}
 use Rattle.record_core.proofs.JournalFacts.{reads-append, beyond}
 
 -- what is known of the task of a new activation
@@ -20,8 +20,10 @@ record IsNewOf (j : JournalState) (t : ℕ) : Type 0 where
   few : t ≤ next_number j
   there : HasTask j.rows t ⊎ (t ≡ next_number j)
   unfinished : finish_of j.tasks t ≡ None
+  -- all numbers of a task but the last have begun
   begun : HasAllBegun j.rows t
 
+-- the task of a new activation is under way, or new
 new_of : (j : JournalState) (task : Option ℕ) → IsJournal j → IfSome task (λ t. IsUnderWay j t) → IsNewOf j (task_or task (next_number j))
 new_of j (Some t) is under_way = record {
   few = omega (arith, number-in_range j.rows t under_way.accepted.0 under_way.accepted.1);
@@ -47,15 +49,19 @@ module _ (j : JournalState) (task after : Option ℕ) (is : IsJournal j) (room :
   abbrev tasks : List TaskRow
   tasks = j.tasks ++ unfinished ∷ []
 
+  -- all starts stay
   same_start : (n : ℕ) → start_of rows n ≡ start_of j.rows n
   same_start n = reads-append start_in j.rows drawn refl n
 
+  -- all finishes stay
   same_finish : (t : ℕ) → finish_of tasks t ≡ finish_of j.tasks t
   same_finish t = reads-append finish_in j.tasks unfinished refl t
 
+  -- all causes stay
   same_cause : (t : ℕ) → cause_of tasks t ≡ cause_of j.tasks t
   same_cause t = reads-append cause_in j.tasks unfinished refl t
 
+  -- so all stamps do
   same_stamp : (e : Event) → stamp_of rows tasks e ≡ stamp_of j.rows j.tasks e
   same_stamp (Starts n) = same_start n
   same_stamp (Finishes t) = same_finish t
@@ -64,23 +70,28 @@ module _ (j : JournalState) (task after : Option ℕ) (is : IsJournal j) (room :
   row_cases : (n : ℕ) (row : ActivationRow) → by_number rows n ≡ Some row → (by_number j.rows n ≡ Some row) ⊎ ((n ≡ next_number j) × (row ≡ drawn))
   row_cases n row at = number-cases j.rows drawn row n at
 
+  -- a task stays one
   still_task : (t : ℕ) → HasTask j.rows t → HasTask rows t
   still_task t there = (there.0, number-old j.rows drawn there.0 t there.1, there.2)
 
+  -- the new activation is of a task
   drawn_of_task : HasTask rows drawn.task
   drawn_of_task = elim of.there [
     | inl there ↦ still_task drawn.task there
     | inr new ↦ subst (λ (t : ℕ). HasTask rows t) (sym new) (drawn, number-new j.rows drawn, new)
   ]
 
+  -- the new activation is behind an earlier task
   waits_for : (o : Option ℕ) → IfSome o (λ u. HasTask j.rows u) → IfSome o (λ u. (u < next_number j) × HasTask rows u)
   waits_for None any = tt
   waits_for (Some u) there = (omega (arith, number-in_range j.rows u there.0 there.1), still_task u there)
 
+  -- an old activation is behind the task that it was behind
   later_waits : (o : Option ℕ) (n : ℕ) → IfSome o (λ u. (u < n) × HasTask j.rows u) → IfSome o (λ u. (u < n) × HasTask rows u)
   later_waits None n any = tt
   later_waits (Some u) n there = (there.0, still_task u there.1)
 
+  -- each activation is of a task
   of_tasks : AreOfTasks rows
   of_tasks n row at = elim (row_cases n row at) [
     | inl old ↦
@@ -108,17 +119,20 @@ module _ (j : JournalState) (task after : Option ℕ) (is : IsJournal j) (room :
         absurd (omega (arith, b, new.0, few.1, length-append j.rows (drawn ∷ [])))
   ]
 
+  -- each start is after what it waits for
   behind : (n u s : ℕ) (row : ActivationRow) → by_number rows n ≡ Some row → row.after ≡ Some u → row.start ≡ Some s
       → (f : ℕ) × (finish_of tasks u ≡ Some f) × (f < s)
   behind n u s row at after start =
       let was : (f : ℕ) × (finish_of j.tasks u ≡ Some f) × (f < s) = is.ordered.behind n u s row (started_old n s row at start) after start in
       (was.0, same_finish u ∙ was.1, was.2)
 
+  -- the activations of a task start in order
   rise : (n m s : ℕ) (one other : ActivationRow) → n < m → by_number rows n ≡ Some one → by_number rows m ≡ Some other
       → one.task ≡ other.task → other.start ≡ Some s → (q : ℕ) × (one.start ≡ Some q) × (q < s)
   rise n m s one other b at at' same start =
       is.ordered.rise n m s one other b (earlier_old n m one other b at at') (started_old m s other at' start) same start
 
+  -- each finish is after the starts of its task
   before : (n f : ℕ) (row : ActivationRow) → by_number rows n ≡ Some row → finish_of tasks row.task ≡ Some f
       → (s : ℕ) × (row.start ≡ Some s) × (s < f)
   before n f row at finish = elim (row_cases n row at) [
@@ -139,11 +153,13 @@ module _ (j : JournalState) (task after : Option ℕ) (is : IsJournal j) (room :
         | inr new ↦ of.begun n one old (same ∙ ap (λ (r : ActivationRow). r.task) new.1)
       ]
 
+  -- causes still lead to a refusal
   led : (t u : ℕ) → cause_of tasks t ≡ By u → (tag : CutTag) × Leads tasks tag t
   led t u by =
       let was : (tag : CutTag) × Leads j.tasks tag t = is.led t u (sym (same_cause t) ∙ by) in
       (was.0, leads-kept j.tasks tasks was.0 (λ k cut. record { cause = same_cause k; finish = same_finish k }) t was.1)
 
+  -- the journal with the new activation
   keeps : IsJournal (with_accepted j task after)
   keeps = record {
     beside = omega (arith, length-append j.rows (drawn ∷ []), length-append j.tasks (unfinished ∷ []), is.beside);
@@ -163,6 +179,7 @@ module _ (j : JournalState) (task after : Option ℕ) (is : IsJournal j) (room :
     led = led;
   }
 
+-- so a further activation keeps the journal
 pub accept-keeps : (j : JournalState) (task after : Option ℕ) → IsJournal j → length j.rows < j.limit
     → IfSome task (λ t. IsUnderWay j t) → IfSome after (λ u. HasTask j.rows u) → IsJournal (with_accepted j task after)
 accept-keeps j task after is room under_way waits = keeps j task after is room (new_of j task is under_way) waits

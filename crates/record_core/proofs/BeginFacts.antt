@@ -1,13 +1,12 @@
 -- A start keeps the journal.
-use Rattle.std.proofs.Common.{◌≡◌, ◌≢◌, ◌⊎◌, ◌∙◌, inl, inr, ℕ, zero, suc, ◌+◌, ◌≤◌, ◌<◌, Option, Some, None, List, length, refl, sym, ap, subst, arith}
+use Rattle.std.proofs.Common.{◌≡◌, ◌≢◌, ◌⊎◌, ◌∙◌, inl, inr, ℕ, ◌+◌, ◌≤◌, ◌<◌, Option, Some, None, List, refl, sym, ap, subst, arith}
 use Rattle.std.specs.Prelude.{IsSome, IfSome}
 use Rattle.std.proofs.lemmas.Bool.{cases_eq}
 use Rattle.record_core.specs.Numbers.{by_number, put_number, HasTask}
-use Rattle.record_core.specs.Journal.{JournalState, with_begun, started_rows, start_in, start_of, finish_of, starts, finishes, Event, Starts, Finishes, stamp_of, AreInOrder, IsOfTask, AreOfTasks, IsJournal, MayBegin}
-use Rattle.record_core.specs.JournalLaws.{GrowsFrom, TellsBegun}
+use Rattle.record_core.specs.Journal.{JournalState, with_begun, started_rows, start_in, finish_of, starts, Event, Starts, Finishes, stamp_of, IsOfTask, AreOfTasks, IsJournal, MayBegin}
+use Rattle.record_core.specs.JournalLaws.{TellsBegun}
 use Rattle.record_core.specs.declared.rows.ActivationRow.{ActivationRow}
-use Rattle.record_core.proofs.TotalFacts.{none_there}
-use Rattle.record_core.proofs.NumberFacts.{number-in_range, number-set, number-other, total-put, length-put}
+use Rattle.record_core.proofs.NumberFacts.{number-set, number-other, total-put, length-put}
 use Rattle.record_core.proofs.StampFacts.{stamped-more, stays}
 use Rattle.record_core.proofs.JournalFacts.{some_value, is_some_from}
 
@@ -21,9 +20,11 @@ module _ (j : JournalState) (n : ℕ) (is : IsJournal j) (may : MayBegin j n) wh
   abbrev rows : List ActivationRow
   rows = put_number j.rows n begun_row
 
+  -- the row that begins has its start
   at_number : by_number rows n ≡ Some begun_row
   at_number = number-set j.rows n begun_row may.row may.accepted
 
+  -- the other rows stay
   at_other : (m : ℕ) → m ≢ n → by_number rows m ≡ by_number j.rows m
   at_other m differ = number-other j.rows n m begun_row differ
 
@@ -43,6 +44,7 @@ module _ (j : JournalState) (n : ℕ) (is : IsJournal j) (may : MayBegin j n) wh
     after : row.after ≡ old.after
     start : ((m ≡ n) × (row.start ≡ Some stamp) × (old.start ≡ None)) ⊎ ((m ≢ n) × (row.start ≡ old.start))
 
+  -- each row was there
   was_row : (m : ℕ) (row : ActivationRow) → by_number rows m ≡ Some row → WasRow m row
   was_row m row at = elim (row_cases m row at) [
     | inl it ↦ record {
@@ -55,6 +57,7 @@ module _ (j : JournalState) (n : ℕ) (is : IsJournal j) (may : MayBegin j n) wh
     | inr other ↦ record { old = row; at = other.1; task = refl; after = refl; start = inr (other.0, refl) }
   ]
 
+  -- a task stays one
   still_task : (t : ℕ) → HasTask j.rows t → HasTask rows t
   still_task t there = elim (cases_eq t n) [
     | inl it ↦
@@ -65,10 +68,12 @@ module _ (j : JournalState) (n : ℕ) (is : IsJournal j) (may : MayBegin j n) wh
     | inr differ ↦ (there.0, at_other t differ ∙ there.1, there.2)
   ]
 
+  -- each activation is behind the task that it was behind
   later_waits : (o o' : Option ℕ) (m : ℕ) → o ≡ o' → IfSome o' (λ u. (u < m) × HasTask j.rows u) → IfSome o (λ u. (u < m) × HasTask rows u)
   later_waits o None m e any = subst (λ (w : Option ℕ). IfSome w (λ u. (u < m) × HasTask rows u)) (sym e) tt
   later_waits o (Some u) m e there = subst (λ (w : Option ℕ). IfSome w (λ u. (u < m) × HasTask rows u)) (sym e) (there.0, still_task u there.1)
 
+  -- each activation is of a task
   of_tasks : AreOfTasks rows
   of_tasks m row at =
       let was : WasRow m row = was_row m row at in
@@ -79,12 +84,15 @@ module _ (j : JournalState) (n : ℕ) (is : IsJournal j) (may : MayBegin j n) wh
         after = later_waits row.after was.old.after m was.after old.after;
       }
 
+  -- the activation had no start
   unstamped : stamp_of j.rows j.tasks (Starts n) ≡ None
   unstamped = ap start_in may.accepted ∙ may.not_begun
 
+  -- it has the next stamp now
   stamped_now : stamp_of rows j.tasks (Starts n) ≡ Some stamp
   stamped_now = ap start_in at_number
 
+  -- all other stamps stay
   others : (e : Event) → (e ≡ Starts n) ⊎ (stamp_of rows j.tasks e ≡ stamp_of j.rows j.tasks e)
   others (Starts m) = elim (cases_eq m n) [ inl it ↦ inl (ap Starts it) | inr differ ↦ inr (ap start_in (at_other m differ)) ]
   others (Finishes t) = inr refl
@@ -94,12 +102,15 @@ module _ (j : JournalState) (n : ℕ) (is : IsJournal j) (may : MayBegin j n) wh
   start_few m q row at start =
       let b : (1 ≤ q) × (q ≤ j.stamps) = is.stamped.within (Starts m) q (ap start_in at ∙ start) in omega (arith, b.1)
 
+  -- each finish so far is below the new stamp
   finish_few : (t f : ℕ) → finish_of j.tasks t ≡ Some f → f < stamp
   finish_few t f at = let b : (1 ≤ f) × (f ≤ j.stamps) = is.stamped.within (Finishes t) f at in omega (arith, b.1)
 
+  -- what the activation is behind has finished
   waited : (o : Option ℕ) (u : ℕ) → o ≡ Some u → IfSome o (λ u. IsSome (finish_of j.tasks u)) → IsSome (finish_of j.tasks u)
   waited o u e free = subst (λ (w : Option ℕ). IfSome w (λ u. IsSome (finish_of j.tasks u))) e free
 
+  -- each start is after what it waits for
   behind : (m u s : ℕ) (row : ActivationRow) → by_number rows m ≡ Some row → row.after ≡ Some u → row.start ≡ Some s
       → (f : ℕ) × (finish_of j.tasks u ≡ Some f) × (f < s)
   behind m u s row at after start =
@@ -117,6 +128,7 @@ module _ (j : JournalState) (n : ℕ) (is : IsJournal j) (may : MayBegin j n) wh
         | inr other ↦ is.ordered.behind m u s was.old was.at (sym was.after ∙ after) (sym other.1 ∙ start)
       ]
 
+  -- the activations of a task start in order
   rise : (i m s : ℕ) (one other : ActivationRow) → i < m → by_number rows i ≡ Some one → by_number rows m ≡ Some other
       → one.task ≡ other.task → other.start ≡ Some s → (q : ℕ) × (one.start ≡ Some q) × (q < s)
   rise i m s one other b at at' same start =
@@ -141,6 +153,7 @@ module _ (j : JournalState) (n : ℕ) (is : IsJournal j) (may : MayBegin j n) wh
             ]
       ]
 
+  -- each finish is after the starts of its task
   before : (m f : ℕ) (row : ActivationRow) → by_number rows m ≡ Some row → finish_of j.tasks row.task ≡ Some f
       → (s : ℕ) × (row.start ≡ Some s) × (s < f)
   before m f row at finish =
@@ -152,6 +165,7 @@ module _ (j : JournalState) (n : ℕ) (is : IsJournal j) (may : MayBegin j n) wh
         | inr other ↦ (old.0, other.1 ∙ old.1, old.2)
       ]
 
+  -- all numbers of a task but the last have begun
   begun : (i m : ℕ) (one other : ActivationRow) → i < m → by_number rows i ≡ Some one → by_number rows m ≡ Some other
       → one.task ≡ other.task → IsSome one.start
   begun i m one other b at at' same =
@@ -163,12 +177,14 @@ module _ (j : JournalState) (n : ℕ) (is : IsJournal j) (may : MayBegin j n) wh
         | inr other ↦ subst (λ (o : Option ℕ). IsSome o) (sym other.1) old
       ]
 
+  -- there is one start more
   starts_more : starts rows ≡ starts j.rows + 1
   starts_more =
       let weight : ActivationRow → ℕ = λ row. elim row.start [ None ↦ 0 | Some s ↦ 1 ] in
       let go : Option ℕ → ℕ = λ o. elim o [ None ↦ 0 | Some s ↦ 1 ] in
       omega (arith, total-put weight j.rows n may.row begun_row may.accepted, ap go may.not_begun)
 
+  -- the journal with the start
   keeps : IsJournal (record j { stamps = stamp; rows = rows })
   keeps = record {
     beside = omega (arith, is.beside, length-put j.rows n begun_row);
@@ -183,11 +199,13 @@ module _ (j : JournalState) (n : ℕ) (is : IsJournal j) (may : MayBegin j n) wh
     led = is.led;
   }
 
+  -- which is what `begin` writes
   pub begun_keeps : IsJournal (with_begun j n)
   begun_keeps =
       let to : Option ActivationRow → JournalState = λ o. record j { stamps = stamp; rows = started_rows j.rows n stamp o } in
       subst (λ (k : JournalState). IsJournal k) (ap to (sym may.accepted)) keeps
 
+  -- each row keeps its task and its predecessor
   still_row : (m : ℕ) (row : ActivationRow) → by_number j.rows m ≡ Some row → (start : Option ℕ) × (by_number rows m ≡ Some (record row { start = start }))
   still_row m row at = elim (cases_eq m n) [
     | inl it ↦
@@ -198,6 +216,7 @@ module _ (j : JournalState) (n : ℕ) (is : IsJournal j) (may : MayBegin j n) wh
     | inr differ ↦ (row.start, at_other m differ ∙ at)
   ]
 
+  -- what stands stays, and the start is told
   tells : TellsBegun j (record j { stamps = stamp; rows = rows }) n
   tells = record {
     grows = record {
@@ -208,10 +227,12 @@ module _ (j : JournalState) (n : ℕ) (is : IsJournal j) (may : MayBegin j n) wh
     start = stamped_now;
   }
 
+  -- and so in what `begin` writes
   pub begun_tells : TellsBegun j (with_begun j n) n
   begun_tells =
       let to : Option ActivationRow → JournalState = λ o. record j { stamps = stamp; rows = started_rows j.rows n stamp o } in
       subst (λ (k : JournalState). TellsBegun j k n) (ap to (sym may.accepted)) tells
 
+-- so a start keeps the journal
 pub begin-keeps : (j : JournalState) (n : ℕ) → IsJournal j → MayBegin j n → IsJournal (with_begun j n)
 begin-keeps j n is may = begun_keeps j n is may

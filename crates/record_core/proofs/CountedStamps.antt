@@ -1,24 +1,25 @@
 -- How many stamps a journal has: never more than two to a row, and at the end one to an activation and one to a task.
-use Rattle.std.proofs.Common.{◌≡◌, ◌∙◌, ◌⊎◌, inl, inr, ℕ, zero, suc, ◌+◌, ◌*◌, ◌≤◌, ◌<◌, Bool, true, false, cond, Option, Some, None, List, [], ◌∷◌, length, refl, sym, ap, subst, arith}
+use Rattle.std.proofs.Common.{◌≡◌, ◌∙◌, inl, inr, ℕ, suc, ◌+◌, ◌*◌, ◌≤◌, true, false, cond, Option, Some, None, List, [], ◌∷◌, length, refl, sym, ap, subst, arith}
 use Rattle.std.specs.Prelude.{IsSome, nat_eq, slice_get}
 use Rattle.std.proofs.lemmas.Bool.{cases_Bool, eqb-true, eq-eqb}
 use Rattle.task_syntax.specs.Places.{Each}
-use Rattle.record_core.specs.Sums.{total}
-use Rattle.record_core.specs.Numbers.{by_number, HasTask}
+use Rattle.record_core.specs.Numbers.{HasTask}
 use Rattle.record_core.specs.Journal.{JournalState, finish_in, finish_of, starts, finishes, tasks_from, task_count, IsJournal}
 use Rattle.record_core.specs.declared.rows.ActivationRow.{ActivationRow}
 use Rattle.record_core.specs.declared.rows.TaskRow.{TaskRow}
-use Rattle.record_core.proofs.TotalFacts.{none_there, total-bounded}
-use Rattle.record_core.proofs.JournalFacts.{some_value, is_some_from}
+use Rattle.record_core.proofs.TotalFacts.{total-bounded}
+use Rattle.record_core.proofs.JournalFacts.{some_value}
 
 abbrev one_of : Option ℕ → ℕ
 one_of None = 0
 one_of (Some s) = 1
 
+-- a row has one stamp of a kind at most
 one_at_most : (o : Option ℕ) → one_of o ≤ 1
 one_at_most None = omega arith
 one_at_most (Some s) = omega arith
 
+-- there are at most two stamps to a row
 pub stamps_few : (j : JournalState) → IsJournal j → j.stamps ≤ length j.rows + length j.rows
 stamps_few j is =
     let started : starts j.rows ≤ 1 * length j.rows = total-bounded (λ (row : ActivationRow). one_of row.start) 1 j.rows (λ n row at. one_at_most row.start) in
@@ -36,6 +37,7 @@ all_started (row ∷ rows) each =
 abbrev IsTold : ℕ → ActivationRow → TaskRow → Type 0
 IsTold n row task = ((row.task ≡ n) → IsSome task.finish) × ((f : ℕ) → task.finish ≡ Some f → row.task ≡ n)
 
+-- a task's finish is counted at the task's own number
 counted_once : (n : ℕ) (row : ActivationRow) (task : TaskRow) → IsTold n row task → one_of task.finish ≡ cond (nat_eq row.task n) 1 0
 counted_once n row task told = elim (cases_Bool (nat_eq row.task n)) [
   | inl first ↦
@@ -48,6 +50,7 @@ counted_once n row task told = elim (cases_Bool (nat_eq row.task n)) [
     none_of None told later = sym (ap (λ b. cond b 1 0) later)
     none_of (Some f) told later = let first : nat_eq row.task n ≡ true = eq-eqb row.task n (told f refl) in absurd cc
 
+-- there are as many finishes as tasks
 all_finished : (n : ℕ) (rows : List ActivationRow) (tasks : List TaskRow) → length tasks ≡ length rows
     → ((k : ℕ) (row : ActivationRow) (task : TaskRow) → slice_get rows k ≡ Some row → slice_get tasks k ≡ Some task → IsTold (n + k) row task)
     → finishes tasks ≡ tasks_from n rows
@@ -61,6 +64,7 @@ all_finished n (row ∷ rows) (task ∷ tasks) beside each =
     later : (k : ℕ) (r : ActivationRow) (s : TaskRow) → slice_get rows k ≡ Some r → slice_get tasks k ≡ Some s → IsTold (suc n + k) r s
     later k r s at at' = let e : n + suc k ≡ suc n + k = omega arith in subst (λ (m : ℕ). IsTold m r s) e (each (suc k) r s at at')
 
+-- at the end there are as many stamps as activations and tasks
 pub all_written : (j : JournalState) → IsJournal j → Each j.rows (λ (row : ActivationRow). IsSome row.start)
     → ((t : ℕ) → HasTask j.rows t → IsSome (finish_of j.tasks t)) → j.stamps ≡ length j.rows + task_count j.rows
 all_written j is started finished =

@@ -1,9 +1,9 @@
 -- What sound and faithful ends can not show.
-use Rattle.std.proofs.Common.{◌≡◌, ◌≢◌, ◌⊎◌, ◌↔◌, ◌∙◌, inl, inr, ℕ, zero, suc, ◌+◌, ◌≤◌, ◌<◌, Bool, true, false, Option, Some, None, List, [], ◌∷◌, ◌++◌, length, refl, sym, ap, subst, arith}
-use Rattle.std.specs.Prelude.{IfSome, IsSome, is_some, slice_get}
+use Rattle.std.proofs.Common.{◌≡◌, ◌≢◌, ◌⊎◌, ◌∙◌, inl, inr, ℕ, zero, suc, ◌+◌, ◌≤◌, ◌<◌, true, false, Option, Some, None, List, [], ◌∷◌, ◌++◌, length, refl, sym, ap, subst, arith}
+use Rattle.std.specs.Prelude.{IfSome, slice_get}
 use Rattle.std.specs.List.{flat_map}
 use Rattle.std.specs.Option.{option_or, option_map}
-use Rattle.task_syntax.specs.Places.{Each, EachAt}
+use Rattle.task_syntax.specs.Places.{Each}
 use Rattle.task_syntax.specs.Form.{IsWellFormed, IsFormedRootArgument, IsFormedRoot}
 use Rattle.task_syntax.specs.declared.value.Value.{Value as ValueOf}
 use Rattle.task_syntax.specs.declared.program.RootArgument.{RootArgument}
@@ -21,8 +21,8 @@ use Rattle.record_core.specs.Counting.{Has}
 use Rattle.record_core.specs.Numbers.{by_number}
 use Rattle.record_core.specs.Journal.{IsRefusal, is_cut, Leads, refused, cut_by, finish_of, cause_of}
 use Rattle.record_core.specs.EndSeen.{EndSeen, RunPlan}
-use Rattle.record_core.specs.RootEnds.{root_passed, root_waited, roots_named, cut_without_task, without_task, first_without_task, cut_from_root}
-use Rattle.record_core.specs.EndSound.{EndSound, HasEvidence, IsRootSound, null_root, null_task, null_ends}
+use Rattle.record_core.specs.RootEnds.{root_passed, root_waited, roots_named, cut_without_task, without_task, first_without_task}
+use Rattle.record_core.specs.EndSound.{EndSound, HasEvidence, null_root, null_task}
 use Rattle.record_core.specs.EndFaithful.{EndFaithful, IsUncut}
 use Rattle.record_core.specs.EndLaws.{HasRefusal, IsCutEarlier}
 use Rattle.record_core.specs.declared.rows.ActivationRow.{ActivationRow}
@@ -69,6 +69,7 @@ record IsWithout (ends : List RootEnd) (at r : ℕ) (tag : CutTag) : Type 0 wher
   there : slice_get ends at ≡ Some end
   cut : cut_without_task end ≡ Some tag
 
+-- a root that is found is the one that was asked for
 tagged : (at r : ℕ) (tag : CutTag) (o : Option CutTag) → option_map {U = ℕ × CutTag} (λ other. (at, other)) o ≡ Some (r, tag) → (r ≡ at) × (o ≡ Some tag)
 tagged at r tag None is = absurd (none_there (r, tag) is)
 tagged at r tag (Some other) is = let same : (at, other) ≡ (r, tag) = cc in (sym (ap (λ (x : ℕ × CutTag). x.0) same), ap (λ (x : ℕ × CutTag). Some x.1) same)
@@ -77,6 +78,7 @@ abbrev seen_without : ℕ → Option RootEnd → Option (ℕ × CutTag)
 seen_without at None = None
 seen_without at (Some end) = option_map (λ tag. (at, tag)) (cut_without_task end)
 
+-- and has its end
 found_without : (ends : List RootEnd) (at r : ℕ) (tag : CutTag) (o : Option RootEnd) → slice_get ends at ≡ o
     → seen_without at o ≡ Some (r, tag) → IsWithout ends at r tag
 found_without ends at r tag None there is = absurd (none_there (r, tag) is)
@@ -89,9 +91,11 @@ record IsNamed (ends : List RootEnd) (names : List ℕ) (r : ℕ) (tag : CutTag)
   named : Has r names
   without : IsWithout ends r r tag
 
+-- the same, said of the root that was found
 moved : (ends : List RootEnd) (at r : ℕ) (tag : CutTag) → IsWithout ends at r tag → IsWithout ends r r tag
 moved ends at r tag w = record { same = refl; end = w.end; there = ap (slice_get ends) w.same ∙ w.there; cut = w.cut }
 
+-- the first of a list is found at its head or further on
 pick : (ends : List RootEnd) (at : ℕ) (names : List ℕ) (r : ℕ) (tag : CutTag) (o : Option (ℕ × CutTag)) → without_task ends at ≡ o
     → (first_without_task ends names ≡ Some (r, tag) → IsNamed ends names r tag) → option_or o (first_without_task ends names) ≡ Some (r, tag) → IsNamed ends (at ∷ names) r tag
 pick ends at names r tag None none further is =
@@ -133,6 +137,7 @@ module _ (p : Program) (c : Columns) (plan : RunPlan) (e : EndSeen) (formed : Is
     there : slice_get e.roots r ≡ Some end
     cut : (end ≡ Cut tag Host) ⊎ ((q : ℕ) × (end ≡ Cut tag (Root q)))
 
+  -- a cut from a root is from an earlier one, which got no task
   from_earlier : (at r : ℕ) (tag : CutTag) → slice_get e.roots at ≡ Some (Cut tag (Root r)) → IsFromEarlier at r tag
   from_earlier at r tag there =
       let line : (root : RootLine) × (slice_get p.roots at ≡ Some root) = member_at p.roots at (omega (arith, sound.as_many, at-in_range e.roots at (Cut tag (Root r)) there)) in
@@ -146,6 +151,7 @@ module _ (p : Program) (c : Columns) (plan : RunPlan) (e : EndSeen) (formed : Is
         cut = no_task tag first.without.end first.without.cut;
       }
 
+  -- so going from root to root one comes to a refusal
   refusal_below : (bound at : ℕ) (tag : CutTag) (from : CutFrom) → at < bound → slice_get e.roots at ≡ Some (Cut tag from) → HasRefusal e tag
   refusal_below zero at tag from b there = absurd (omega (arith, b))
   refusal_below (suc bound) at tag Host b there = inr (at, there)
@@ -158,12 +164,15 @@ module _ (p : Program) (c : Columns) (plan : RunPlan) (e : EndSeen) (formed : Is
         | inr root ↦ refusal_below bound r tag (Root root.0) (omega (arith, b, w.earlier)) (w.there ∙ ap Some root.1)
       ]
 
+  -- each cut comes from a refusal
   pub refusal_of : (at : ℕ) (tag : CutTag) (from : CutFrom) → slice_get e.roots at ≡ Some (Cut tag from) → HasRefusal e tag
   refusal_of at tag from there = refusal_below (suc at) at tag from (omega arith) there
 
+  -- a root is cut by the limit only where it is met
   pub limit_met : (at : ℕ) (from : CutFrom) → slice_get e.roots at ≡ Some (Cut Limit from) → length e.rows ≡ plan.limit
   limit_met at from there = elim (refusal_of at Limit from there) [ inl task ↦ sound.limited task.0 task.1 | inr root ↦ sound.limited_root root.0 root.1 ]
 
+  -- a null root has evidence
   pub null_shown : (at : ℕ) (from : CutFrom) → slice_get e.roots at ≡ Some (Cut Null from) → HasEvidence e plan.limit
   null_shown at from there = elim (refusal_of at Null from there) [
     | inl task ↦ sound.evidence (omega (arith, null_counted e.tasks task.0 task.1, sound.nulls))
@@ -185,9 +194,11 @@ cut_earlier e t u tag by (cut_by w f g is of_u of_t before more) =
       cut = ap (λ k. is_cut (cause_of e.tasks k)) (sym same) ∙ leads_cut e.tasks tag w more;
     }
 
+-- whoever cuts a task finished earlier
 pub cut_by_earlier : (p : Program) (c : Columns) (plan : RunPlan) (e : EndSeen) (t u : ℕ) → EndSound p c plan e → cause_of e.tasks t ≡ cause.By u → IsCutEarlier e t u
 cut_by_earlier p c plan e t u sound by = let led = (sound.causes t u by).1 in cut_earlier e t u led.0 by led.1
 
+-- a cut root shows no value
 pub no_cut_value : (p : Program) (e : EndSeen) (at t : ℕ) (v : ValueOf) → EndFaithful p e → future_at e.own at ≡ Some t
     → is_cut (cause_of e.tasks t) ≡ true → slice_get e.roots at ≢ Some (Value v)
 no_cut_value p e at t v faithful own cut there =
@@ -196,10 +207,12 @@ no_cut_value p e at t v faithful own cut there =
     let not_cut : is_cut (cause_of e.tasks t) ≡ false = ap is_cut clear in
     absurd cc
 
+-- a task behind a cut one has no other cause
 pub no_cut_hidden : (p : Program) (e : EndSeen) (n u : ℕ) (row : ActivationRow) (other : Cause) → EndFaithful p e → by_number e.rows n ≡ Some row → row.after ≡ Some u
     → is_cut (cause_of e.tasks u) ≡ true → other ≢ cause.By u → cause_of e.tasks row.task ≢ other
 no_cut_hidden p e n u row other faithful at after cut differ is = differ (sym is ∙ faithful.through n u row at after cut)
 
+-- a root's task has no other predecessor
 pub no_other_predecessor : (p : Program) (e : EndSeen) (at t : ℕ) (root : RootLine) (row : ActivationRow) (other : Option ℕ) → EndFaithful p e
     → slice_get p.roots at ≡ Some root → future_at e.own at ≡ Some t → by_number e.rows t ≡ Some row → other ≢ root_waits e.own root.behind → row.after ≢ other
 no_other_predecessor p e at t root row other faithful line own there differ is = differ (sym is ∙ faithful.own_behind at t root row line own there)

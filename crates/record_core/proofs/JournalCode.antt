@@ -1,10 +1,10 @@
 -- The code of the journal writes what its calls say, and its memory suffices.
-use Rattle.std.proofs.Common.{◌≡◌, ◌∙◌, ℕ, zero, suc, ◌+◌, ◌-◌, ◌≤◌, ◌<◌, Bool, true, false, if◌then◌else◌, Option, Some, None, List, [], ◌∷◌, ◌++◌, length, refl, sym, ap, subst, arith}
+use Rattle.std.proofs.Common.{◌≡◌, ◌∙◌, ℕ, zero, suc, ◌+◌, ◌-◌, ◌≤◌, ◌<◌, Bool, true, if◌then◌else◌, Option, Some, None, List, [], ◌∷◌, ◌++◌, length, refl, sym, ap, subst, arith}
 use Rattle.std.specs.Prelude.{IfSome, get_or, slice_get, slice_set}
 use Rattle.std.specs.Option.{unwrap_or}
 use Rattle.record_core.specs.Numbers.{by_number, put_number, HasTask}
 use Rattle.record_core.specs.Journal.{JournalState, task_or, unfinished, with_accepted, with_begun, with_finished, started_rows, IsJournal, IsUnderWay, MayBegin, MayCause}
-use Rattle.record_core.specs.Kept.{journal_of, HasRoom}
+use Rattle.record_core.specs.JournalInvariant.{journal_of, HasRoom}
 use Rattle.record_core.specs.declared.rows.ActivationRow.{ActivationRow}
 use Rattle.record_core.specs.declared.rows.TaskRow.{TaskRow}
 use Rattle.record_core.specs.declared.rows.Cause.{Cause}
@@ -19,6 +19,7 @@ use Rattle.record_core.proofs.CountedStamps.{stamps_few}
 pub grown : {A : Type 0} (b : Bool) (new more old : List A) → new ≡ (if b then more else old) → b ≡ true → new ≡ more
 grown b new more old is fits = is ∙ ap (λ t. if t then more else old) fits
 
+-- the task that is named, or else the new number
 chosen_task : (task : Option ℕ) (n : ℕ) → unwrap_or task n ≡ task_or task n
 chosen_task None n = refl
 chosen_task (Some t) n = refl
@@ -34,6 +35,7 @@ accepted_by was task after t n rows tasks many chosen grew also =
     ap (λ rs. journal_of rs tasks was.stamps was.limit) (grew ∙ ap row its)
     ∙ ap (λ ts. journal_of (was.rows ++ record { task = task_or task (suc (length was.rows)); after = after; start = None } ∷ []) ts was.stamps was.limit) also
 
+-- the memory suffices after `accept`
 pub room-accepted : (was seen now : JournalState) (task after : Option ℕ) (rows tasks rows' tasks' : ℕ) → was ≡ seen → HasRoom was rows tasks → length was.rows < was.limit
     → IfSome task (λ t. IsUnderWay seen t) → IfSome after (λ u. HasTask seen.rows u) → now ≡ with_accepted was task after → rows ≤ rows' → tasks ≤ tasks'
     → HasRoom now rows' tasks'
@@ -64,6 +66,7 @@ begun_by was n row at =
     ap (λ rs. journal_of rs was.tasks (was.stamps + 1) was.limit)
     (put_before was.rows n (record row { start = Some (was.stamps + 1) }) few.0 ∙ ap (started_rows was.rows n (was.stamps + 1)) (sym at))
 
+-- the memory suffices after `begin`
 pub room-begun : (was seen now : JournalState) (n : ℕ) (rows tasks : ℕ) → was ≡ seen → HasRoom was rows tasks → MayBegin seen n → now ≡ with_begun was n → HasRoom now rows tasks
 room-begun was seen now n rows tasks same room may is =
     subst (λ (j : JournalState). HasRoom j rows tasks) (sym is) (record {
@@ -78,6 +81,7 @@ pub finished_by : (was : JournalState) (t : ℕ) (cause : Cause) → 1 ≤ t
     → journal_of was.rows (slice_set was.tasks (t - 1) (record { finish = Some (was.stamps + 1); cause = cause })) (was.stamps + 1) was.limit ≡ with_finished was t cause
 finished_by was t cause some = ap (λ ts. journal_of was.rows ts (was.stamps + 1) was.limit) (put_before was.tasks t (record { finish = Some (was.stamps + 1); cause = cause }) some)
 
+-- the memory suffices after `finish`
 pub room-finished : (was seen now : JournalState) (t : ℕ) (cause : Cause) (rows tasks : ℕ) → was ≡ seen → HasRoom was rows tasks → IsUnderWay seen t → MayCause seen cause
     → now ≡ with_finished was t cause → HasRoom now rows tasks
 room-finished was seen now t cause rows tasks same room under_way may is =
@@ -94,10 +98,12 @@ get_or-at [] k x other at = absurd (none_there x at)
 get_or-at (y ∷ xs) zero x other at = cc
 get_or-at (y ∷ xs) (suc k) x other at = get_or-at xs k x other at
 
+-- what the code reads at a number is the number's row
 pub row_read : {A : Type 0} (xs : List A) (n : ℕ) (x read : A) → by_number xs n ≡ Some x → read ≡ get_or xs (n - 1) read → read ≡ x
 row_read xs zero x read at is = absurd (none_there x at)
 row_read xs (suc n) x read at is = let e : suc n - 1 ≡ n = omega arith in is ∙ ap (λ k. get_or xs k read) e ∙ get_or-at xs n x read at
 
+-- the row that is read with the start is what `begin` says
 pub begun_from : (was seen : JournalState) (n : ℕ) (row : ActivationRow) → was ≡ seen → MayBegin seen n → row ≡ get_or was.rows (n - 1) row
     → journal_of (slice_set was.rows (n - 1) (record { task = row.task; after = row.after; start = Some (was.stamps + 1) })) was.tasks (was.stamps + 1) was.limit ≡ with_begun was n
 begun_from was seen n row same may is =
@@ -109,6 +115,7 @@ begun_from was seen n row same may is =
 pub begun_number : (was seen : JournalState) (n : ℕ) → was ≡ seen → MayBegin seen n → (1 ≤ n) × (n ≤ length was.rows)
 begun_number was seen n same may = number-in_range was.rows n may.row (ap (λ (j : JournalState). by_number j.rows n) same ∙ may.accepted)
 
+-- a task that may finish has a position
 pub finished_number : (was seen : JournalState) (t : ℕ) → was ≡ seen → IsJournal was → IsUnderWay seen t → (1 ≤ t) × (t ≤ length was.tasks)
 finished_number was seen t same is under_way =
     let there : HasTask was.rows t = subst (λ (j : JournalState). HasTask j.rows t) (sym same) under_way.accepted in

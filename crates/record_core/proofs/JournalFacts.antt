@@ -1,27 +1,17 @@
 -- What each call writes keeps the journal.
-use Rattle.std.proofs.Common.{◌≡◌, ◌≢◌, ◌⊎◌, ◌∙◌, inl, inr, ℕ, zero, suc, ◌+◌, ◌≤◌, ◌<◌, Bool, true, false, Option, Some, None, List, [], ◌∷◌, ◌++◌, length, refl, sym, ap, subst, arith}
-use Rattle.std.specs.Prelude.{IsSome, IfSome, is_some}
-use Rattle.std.proofs.lemmas.Bool.{cases_eq}
-use Rattle.std.proofs.Math.ListN.{length-append}
-use Rattle.record_core.specs.Sums.{total}
-use Rattle.record_core.specs.Numbers.{by_number, put_number, HasTask}
-use Rattle.record_core.specs.Journal.{JournalState, empty_journal, task_or, next_number, unfinished, with_accepted, with_begun, with_finished, started_rows, start_in, start_of, finish_in, finish_of, cause_in, cause_of, starts, finishes, Event, Starts, Finishes, stamp_of, AreStampedOnce, AreInOrder, IsOfTask, AreOfTasks, is_cut, Leads, refused, cut_by, IsJournal, HasAllBegun, IsUnderWay, MayBegin, MayCause}
-use Rattle.record_core.specs.declared.rows.ActivationRow.{ActivationRow}
-use Rattle.record_core.specs.declared.rows.TaskRow.{TaskRow}
-use Rattle.record_core.specs.declared.rows.Cause.{Cause}
-use Rattle.record_core.specs.declared.rows.Cause.TheVariants.{Clear, Null, Limit, By}
-use Rattle.record_core.specs.declared.rows.CutTag.{CutTag}
-use Rattle.record_core.specs.declared.rows.CutTag.TheVariants as cut_tag
-use Rattle.record_core.proofs.TotalFacts.{none_there, total-snoc, total-set}
-use Rattle.record_core.proofs.NumberFacts.{number-in_range, numbered_member, number-old, number-new, number-cases, number-set, number-other}
-use Rattle.record_core.proofs.StampFacts.{stamped-same, stamped-more}
-use Rattle.record_core.proofs.LeadFacts.{IsKept, leads-kept}
+use Rattle.std.proofs.Common.{◌≡◌, ℕ, zero, suc, ◌<◌, Option, Some, None, List, [], ◌∷◌, ◌++◌, length, refl, ap, arith}
+use Rattle.std.specs.Prelude.{IsSome, is_some}
+use Rattle.record_core.specs.Numbers.{by_number}
+use Rattle.record_core.specs.Journal.{empty_journal, finish_of, cause_of, Event, Starts, Finishes, stamp_of, IsJournal}
+use Rattle.record_core.specs.declared.rows.Cause.TheVariants.{Clear}
+use Rattle.record_core.proofs.TotalFacts.{none_there}
 
 -- what an option has
 pub some_value : {A : Type 0} (o : Option A) → IsSome o → (x : A) × (o ≡ Some x)
 some_value (Some x) is = (x, refl)
 some_value None is = absurd cc
 
+-- an option that has a value is not empty
 pub is_some_from : {A : Type 0} (o : Option A) (x : A) → o ≡ Some x → IsSome o
 is_some_from o x is = ap is_some is
 
@@ -34,6 +24,7 @@ reads-append read [] x none (suc (suc n)) = refl
 reads-append read (y ∷ xs) x none (suc zero) = refl
 reads-append read (y ∷ xs) x none (suc (suc n)) = reads-append read xs x none (suc n)
 
+-- the empty journal is one
 pub empty-is_journal : (limit : ℕ) → IsJournal (empty_journal limit)
 empty-is_journal limit = record {
   beside = refl;

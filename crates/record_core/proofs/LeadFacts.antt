@@ -1,9 +1,9 @@
 -- Facts on causes: what they lead to stays where cut tasks keep their causes and finishes.
-use Rattle.std.proofs.Common.{◌≡◌, ◌≢◌, ◌∙◌, ℕ, ◌<◌, Bool, true, false, Option, Some, None, List, refl, sym, ap, subst, arith}
+use Rattle.std.proofs.Common.{◌≡◌, ◌∙◌, ℕ, true, List, sym, ap, subst}
 use Rattle.record_core.specs.Journal.{IsRefusal, is_cut, Leads, refused, cut_by, finish_of, cause_of}
 use Rattle.record_core.specs.declared.rows.TaskRow.{TaskRow}
 use Rattle.record_core.specs.declared.rows.Cause.{Cause}
-use Rattle.record_core.specs.declared.rows.Cause.TheVariants.{Clear, Null, Limit, By}
+use Rattle.record_core.specs.declared.rows.Cause.TheVariants.{By}
 use Rattle.record_core.specs.declared.rows.CutTag.{CutTag}
 use Rattle.record_core.specs.declared.rows.CutTag.TheVariants as cut_tag
 
@@ -17,6 +17,7 @@ pub refusal_cuts : (tag : CutTag) (cause : Cause) → IsRefusal tag cause → is
 refusal_cuts cut_tag.Null cause is = ap is_cut is
 refusal_cuts cut_tag.Limit cause is = ap is_cut is
 
+-- who is cut by a task is cut
 pub by_cuts : (cause : Cause) (u : ℕ) → cause ≡ By u → is_cut cause ≡ true
 by_cuts cause u is = ap is_cut is
 
@@ -25,6 +26,7 @@ pub leads_cut : (tasks : List TaskRow) (tag : CutTag) (t : ℕ) → Leads tasks 
 leads_cut tasks tag t (refused is) = refusal_cuts tag (cause_of tasks t) is
 leads_cut tasks tag t (cut_by u f g is _ _ _ _) = by_cuts (cause_of tasks t) u is
 
+-- causes lead to the same refusal where cut tasks keep their rows
 pub leads-kept : (tasks tasks' : List TaskRow) (tag : CutTag) → ((t : ℕ) → is_cut (cause_of tasks t) ≡ true → IsKept tasks tasks' t)
     → (t : ℕ) → Leads tasks tag t → Leads tasks' tag t
 leads-kept tasks tasks' tag kept t (refused is) =

@@ -1,5 +1,5 @@
 -- A new task may begin at once, and then finish.
-use Rattle.std.proofs.Common.{◌≡◌, ◌∙◌, ℕ, zero, suc, ◌+◌, ◌≤◌, ◌<◌, Option, Some, None, List, [], ◌∷◌, ◌++◌, length, refl, sym, ap, subst, arith}
+use Rattle.std.proofs.Common.{◌≡◌, ◌∙◌, ℕ, suc, ◌+◌, ◌≤◌, Some, None, List, [], ◌∷◌, ◌++◌, length, refl, sym, ap, subst, arith}
 use Rattle.std.proofs.Math.ListN.{length-append}
 use Rattle.record_core.specs.Numbers.{by_number, put_number}
 use Rattle.record_core.specs.Journal.{JournalState, next_number, unfinished, with_accepted, with_begun, started_rows, finish_in, finish_of, IsJournal, IsUnderWay, MayBegin}
@@ -10,6 +10,7 @@ use Rattle.record_core.proofs.JournalFacts.{is_some_from}
 abbrev new_row : JournalState → ActivationRow
 new_row j = record { task = next_number j; after = None; start = None }
 
+-- a new task behind none may begin
 pub new_may_begin : (j : JournalState) → MayBegin (with_accepted j None None) (next_number j)
 new_may_begin j = record { row = new_row j; accepted = number-new j.rows (new_row j); not_begun = refl; free = tt }
 
@@ -20,19 +21,24 @@ module _ (j : JournalState) (is : IsJournal (with_begun (with_accepted j None No
   abbrev begun_row : ActivationRow
   begun_row = record { task = next_number j; after = None; start = Some (j.stamps + 1) }
 
+  -- the rows after both calls
   rows_are : begun.rows ≡ put_number (j.rows ++ new_row j ∷ []) (next_number j) begun_row
   rows_are = ap (started_rows (j.rows ++ new_row j ∷ []) (next_number j) (j.stamps + 1)) (number-new j.rows (new_row j))
 
+  -- the new task has its row
   there : by_number begun.rows (next_number j) ≡ Some begun_row
   there = ap (λ (rows : List ActivationRow). by_number rows (next_number j)) rows_are
       ∙ number-set (j.rows ++ new_row j ∷ []) (next_number j) begun_row (new_row j) (number-new j.rows (new_row j))
 
+  -- its number is the last
   many : length begun.rows ≡ next_number j
   many = omega (arith, ap length rows_are, length-put (j.rows ++ new_row j ∷ []) (next_number j) begun_row, length-append j.rows (new_row j ∷ []))
 
+  -- there are as many tasks as rows
   as_many : length j.tasks ≡ length j.rows
   as_many = omega (arith, is.beside, many, length-append j.tasks (unfinished ∷ []))
 
+  -- it has not finished
   not_finished : finish_of begun.tasks (next_number j) ≡ None
   not_finished = let e : suc (length j.rows) ≡ suc (length j.tasks) = omega (arith, as_many) in
       ap finish_in (ap (by_number (j.tasks ++ unfinished ∷ [])) e ∙ number-new j.tasks unfinished)
@@ -47,6 +53,7 @@ module _ (j : JournalState) (is : IsJournal (with_begun (with_accepted j None No
       let same : row ≡ begun_row = cc in
       ap (λ (r : ActivationRow). r.start) same
 
+  -- so it is under way
   pub new_under_way : IsUnderWay (with_begun (with_accepted j None None) (next_number j)) (next_number j)
   new_under_way = record {
     accepted = (begun_row, there, refl);

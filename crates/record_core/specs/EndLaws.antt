@@ -1,5 +1,5 @@
 -- What a sound end, and a faithful one, can not show.
-use Rattle.std.specs.Prelude.{◌≡◌, ◌≢◌, ◌⊎◌, ℕ, ◌+◌, ◌<◌, Bool, true, Option, Some, List, length, slice_get}
+use Rattle.std.specs.Prelude.{◌≡◌, ◌≢◌, ◌⊎◌, ℕ, ◌<◌, true, Option, Some, length, slice_get}
 use Rattle.task_syntax.specs.Form.{IsWellFormed}
 use Rattle.task_syntax.specs.declared.value.Value.{Value as ValueOf}
 use Rattle.task_syntax.specs.declared.program.Root.{Root as RootLine}

@@ -1,6 +1,5 @@
 -- The journal of a run: what each call writes into it, and what it keeps.
-use Rattle.std.specs.Prelude.{◌≡◌, ℕ, suc, ◌+◌, ◌<◌, ◌≤◌, ◌⊎◌, Bool, true, false, nat_eq, cond, Option, Some, None, IsSome, List, [], ◌∷◌, ◌++◌, length, IfSome}
-use Rattle.std.specs.Option.{option_map, option_map_or}
+use Rattle.std.specs.Prelude.{◌≡◌, ℕ, suc, ◌+◌, ◌<◌, ◌≤◌, Bool, true, false, nat_eq, cond, Option, Some, None, IsSome, List, [], ◌∷◌, ◌++◌, length, IfSome}
 use Rattle.record_core.specs.Numbers.{by_number, put_number, HasTask}
 use Rattle.record_core.specs.Sums.{total}
 use Rattle.record_core.specs.declared.rows.ActivationRow.{ActivationRow}

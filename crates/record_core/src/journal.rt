@@ -7,7 +7,8 @@ use std::alloc::Global;
 use std::marker::Model;
 use task_syntax::Memory;
 
-/// The journal of a run on one thread: who was accepted, in which order all started and finished, and why tasks were cut.
+/// The journal of a run on one thread: what was accepted, in which order all started and finished, and why
+/// tasks were cut.
 #[derive(Drop)]
 pub struct PlainJournal {
     rows: Vec<ActivationRow>,
@@ -18,18 +19,19 @@ pub struct PlainJournal {
 
 impl Model for PlainJournal {
     ghost use Rattle.record_core.specs.Journal.{JournalState};
-    ghost use Rattle.record_core.specs.Kept.{journal_of, HasRoom};
+    ghost use Rattle.record_core.specs.JournalInvariant.{journal_of, HasRoom};
     ghost use Rattle.std.specs.Prelude.{vec_capacity};
 
     ghost Value = { JournalState };
 
     ghost view = { λ j. journal_of j.rows.items j.tasks.items j.stamps j.limit };
 
-    ghost invariant = { λ j. HasRoom (journal_of j.rows.items j.tasks.items j.stamps j.limit) (vec_capacity j.rows) (vec_capacity j.tasks) };
+    ghost invariant = { λ j. HasRoom (journal_of j.rows.items j.tasks.items j.stamps j.limit)
+        (vec_capacity j.rows) (vec_capacity j.tasks) };
 }
 
 impl PlainJournal {
-    /// An empty journal with the memory for `limit` activations, from 1 to 4,000,000. No later call takes memory.
+    /// An empty journal with memory for 1 to 4,000,000 activations, 56 bytes for each. No later call takes memory.
     pub fn new(alloc: Global, limit: u64) -> Result<PlainJournal, Memory>
         requires some { 1 ≤ limit }
         requires few { limit ≤ 4000000 }
@@ -46,7 +48,8 @@ impl PlainJournal {
         })
     }
 
-    /// Draws the next number, for a further activation of a task or for the first one of a new task.
+    /// Draws the next number, for a further activation of a task or for the first one of a new task. There is
+    /// none once as many are drawn as the journal has memory for.
     pub fn accept(&mut self, task: Option<u32>, after: Option<u32>) -> Option<u32>
         requires task { IfSome task (λ t. IsUnderWay self.old t) }
         requires after { IfSome after (λ u. HasTask self.old.rows u) }

@@ -1,8 +1,10 @@
-//! The rows that a run leaves behind, the trait through which an ended run is read, and sums for whoever counts the
-//! records of a run.
+//! What a run leaves behind: the rows of its activations and tasks, the journal that holds them while it goes on, and the
+//! trait through which a run that has ended is read.
 //!
-//! `specs/Journal.antt` says what is written and in which order, `specs/EndSound.antt` which ended run is sound.
-//! `specs/Sums.antt` defines the sums; the functions on them do nothing, and the contract of each is a law.
+//! `specs/Journal.antt` says what is written into a journal and what every journal keeps. `specs/EndSound.antt` says which
+//! end may be trusted and which must be complete, `specs/EndFaithful.antt` that no cut is hidden in it, and
+//! `specs/EndLaws.antt` what no such end shows. `specs/Sums.antt` and `specs/Counting.antt` have sums and counts over
+//! lists. The functions on definitions do nothing, and the contract of each is a law.
 #![tactic(auto)]
 
 mod counts;

@@ -1,9 +1,8 @@
-use Rattle.std.proofs.Common.{◌≡◌, ◌∙◌, ℕ, ◌≤◌, ◌<◌, ◌+◌, Bool, true, List, [], ◌∷◌, ◌++◌, length, ap, arith}
+use Rattle.std.proofs.Common.{◌≡◌, ◌∙◌, ◌<◌, true, [], ◌∷◌, ◌++◌, length, arith}
 use Rattle.std.specs.Prelude.{None, is_ok}
-use Rattle.record_core.specs.Journal.{JournalState, unfinished, with_accepted}
-use Rattle.record_core.specs.Kept.{journal_of, HasRoom}
+use Rattle.record_core.specs.Journal.{JournalState, unfinished}
+use Rattle.record_core.specs.JournalInvariant.{journal_of, HasRoom}
 use Rattle.record_core.specs.declared.rows.ActivationRow.{ActivationRow}
-use Rattle.record_core.specs.declared.rows.TaskRow.{TaskRow}
 use Rattle.record_core.proofs.JournalCode.{grown, accepted_by, room-accepted}
 use Rattle.record_core.proofs.journal.PlainJournal.accept.Goals as goal
 

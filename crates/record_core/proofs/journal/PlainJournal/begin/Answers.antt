@@ -1,6 +1,6 @@
-use Rattle.std.proofs.Common.{◌≡◌, ◌∙◌, ℕ, ◌≤◌, ◌<◌, ◌+◌, length, ap, arith}
+use Rattle.std.proofs.Common.{◌∙◌, ◌≤◌, length, ap, arith}
 use Rattle.record_core.specs.Journal.{JournalState, with_begun}
-use Rattle.record_core.specs.Kept.{journal_of, HasRoom}
+use Rattle.record_core.specs.JournalInvariant.{journal_of}
 use Rattle.record_core.specs.declared.journal.PlainJournal.TheInside.{Inside}
 use Rattle.record_core.proofs.JournalCode.{stamps_fit, begun_from, begun_number, room-begun}
 use Rattle.record_core.proofs.journal.PlainJournal.begin.Goals as goal

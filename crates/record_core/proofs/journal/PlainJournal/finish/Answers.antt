@@ -1,6 +1,6 @@
-use Rattle.std.proofs.Common.{◌≡◌, ◌∙◌, ℕ, ◌≤◌, ◌<◌, ◌+◌, length, arith}
+use Rattle.std.proofs.Common.{◌≤◌, length, arith}
 use Rattle.record_core.specs.Journal.{JournalState}
-use Rattle.record_core.specs.Kept.{journal_of, HasRoom}
+use Rattle.record_core.specs.JournalInvariant.{journal_of}
 use Rattle.record_core.specs.declared.journal.PlainJournal.TheInside.{Inside}
 use Rattle.record_core.proofs.JournalCode.{stamps_fit, finished_by, finished_number, room-finished}
 use Rattle.record_core.proofs.journal.PlainJournal.finish.Goals as goal
