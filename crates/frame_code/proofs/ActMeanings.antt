@@ -1,17 +1,17 @@
 -- Going on changes nothing of what follows, and where a frame stops it stands at an act of the meaning.
-use Rattle.std.proofs.Common.{◌≡◌, ℕ, zero, suc, Option, Some, None, List, slice_get, refl, sym, ◌∙◌, ap, subst}
+use Rattle.std.proofs.Common.{◌≡◌, ℕ, zero, suc, Option, Some, slice_get, refl, ◌∙◌, ap, subst}
 use Rattle.task_syntax.specs.Form.{IsWellFormed}
 use Rattle.task_syntax.specs.declared.value.Value.{Value}
 use Rattle.task_syntax.specs.declared.value.Value.TheVariants as value
 use Rattle.task_syntax.specs.declared.instr.Instr.{Instr}
-use Rattle.task_syntax.specs.declared.instr.Instr.TheVariants.{Set, Math, If, Goto, Label, Cell, Rows, Spawn, All, Copy, Drop, Get, Again, Done}
+use Rattle.task_syntax.specs.declared.instr.Instr.TheVariants.{Math, Cell, Spawn, All, Copy, Drop, Get, Again, Done}
 use Rattle.task_syntax.specs.declared.instr.Line.{Line}
 use Rattle.task_syntax.specs.declared.program.Program.{Program}
 use Rattle.task_syntax.specs.declared.columns.Columns.{Columns}
 use Rattle.task_meaning.specs.Frame.{FrameOf, code_at, frame_with, set_number, operand}
 use Rattle.task_meaning.specs.Arithmetic.{computed, cell_at}
 use Rattle.task_meaning.specs.Meaning.{rest}
-use Rattle.task_meaning.specs.Acts.{Act as Does, Steps, act_of, act_with, steps_with, ActsAt, followed}
+use Rattle.task_meaning.specs.Acts.{Act as Does, act_of, act_with, steps_with, ActsAt, followed}
 use Rattle.task_meaning.proofs.ActByAct.{rest-follows}
 use Rattle.task_meaning.proofs.Ahead.{jumps_ahead}
 use Rattle.task_meaning.proofs.Renaming.{act-renamed}

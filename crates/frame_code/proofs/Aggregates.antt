@@ -1,12 +1,12 @@
 -- What `advance` does at an aggregate's frame, and where a slice was written whole.
-use Rattle.std.proofs.Common.{◌≡◌, ℕ, ◌<◌, ◌≤◌, Bool, true, false, cond, nat_eq, Option, Some, None, List, [], ◌∷◌, ◌++◌, length, take, drop, slice_get, slice_index, refl, sym, ◌∙◌, ap, subst, inl, inr, arith}
-use Rattle.std.specs.List.{refill, filter_map}
+use Rattle.std.proofs.Common.{◌≡◌, ℕ, ◌<◌, ◌≤◌, Bool, true, false, cond, nat_eq, Some, None, List, [], ◌∷◌, ◌++◌, length, take, drop, slice_get, slice_index, refl, sym, ◌∙◌, ap, subst, inl, inr, arith}
+use Rattle.std.specs.List.{refill}
 use Rattle.std.proofs.lemmas.Option.{slice_get_cases}
 use Rattle.std.proofs.lemmas.Bool.{eqb-true}
 use Rattle.task_syntax.specs.declared.program.Program.{Program}
 use Rattle.task_syntax.specs.declared.columns.Columns.{Columns}
 use Rattle.frame_code.specs.Control.{control_kind, control_state, control_at, is_aggregate}
-use Rattle.frame_code.specs.Words.{BodyOf, OfKind, OfMembers, unit_named, members_at, frame_at, body_of}
+use Rattle.frame_code.specs.Words.{BodyOf, OfKind, OfMembers, members_at, frame_at, body_of}
 use Rattle.frame_code.specs.Frames.{IsAggregateFrame}
 use Rattle.frame_code.specs.Members.{member_act}
 use Rattle.frame_code.specs.Stops.{BodyAdvances}

@@ -1,10 +1,10 @@
 -- What a task may do once it got what it asked for.
-use Rattle.std.proofs.Common.{◌≡◌, ℕ, ◌+◌, ◌<◌, Option, Some, None, List, length, slice_get, refl, sym, ◌∙◌, ap, subst, inl, inr}
+use Rattle.std.proofs.Common.{◌≡◌, ℕ, Option, Some, None, List, slice_get, refl, sym, subst}
 use Rattle.std.proofs.lemmas.Option.{slice_get_within}
 use Rattle.task_syntax.specs.declared.value.Value.{Value}
 use Rattle.task_syntax.specs.declared.value.Value.TheVariants as value
 use Rattle.task_syntax.specs.declared.instr.Instr.{Instr}
-use Rattle.task_syntax.specs.declared.instr.Instr.TheVariants.{Set, Math, If, Goto, Label, Cell, Rows, Spawn, All, Copy, Drop, Get, Again, Done}
+use Rattle.task_syntax.specs.declared.instr.Instr.TheVariants.{Math, Cell, Spawn, All, Copy, Drop, Get, Again, Done}
 use Rattle.task_syntax.specs.declared.instr.Line.{Line}
 use Rattle.task_syntax.specs.declared.program.Program.{Program}
 use Rattle.task_syntax.specs.declared.columns.Columns.{Columns}
@@ -28,7 +28,13 @@ module _ (p : Program) (c : Columns) (q : FrameOf ℕ) where
   allows line asked l (Cell to column row) i e = trap-allows (cell_at c column (operand q.numbers row)) asked e
   allows line asked l (Spawn to kind arguments waits priority retry) i e =
       let s : act.Spawn (record {
-        to = to; kind = kind; numbers = numbers_passed q.numbers arguments; futures = variables_passed arguments; behind = waits; priority = priority; retry = retry;
+        to = to;
+        kind = kind;
+        numbers = numbers_passed q.numbers arguments;
+        futures = variables_passed arguments;
+        behind = waits;
+        priority = priority;
+        retry = retry;
       }) ≡ asked = cc in subst (λ a. BodyAllows p a (OfKind q)) s (line, l, subst IsPassed (sym i) tt)
   allows line asked l (All to members priority retry) i e =
       let s : act.All (record { to = to; members = members; priority = priority; retry = retry }) ≡ asked = cc in

@@ -1,6 +1,5 @@
 -- The control word says what it was made of, and a frame with another control word of its kind is a frame.
-use Rattle.std.proofs.Common.{◌≡◌, ℕ, ◌+◌, ◌*◌, ◌/◌, ◌%◌, ◌<◌, ◌≤◌, Bool, true, false, cond, nat_eq, List, length, drop, slice_index, refl, sym, ◌∙◌, ap, subst, arith}
-use Rattle.task_syntax.specs.Places.{Each}
+use Rattle.std.proofs.Common.{◌≡◌, ℕ, ◌+◌, ◌<◌, true, false, cond, nat_eq, List, length, slice_index, sym, ◌∙◌, ap, subst, arith}
 use Rattle.task_syntax.specs.declared.program.Program.{Program}
 use Rattle.task_meaning.specs.Frame.{variables_of, code_at}
 use Rattle.frame_code.specs.Control.{control_word, control_kind, control_state, control_at, is_aggregate, aggregate_code}
@@ -43,6 +42,17 @@ pub task-size : (p : Program) (words : List ℕ) → IsFrame p words → is_aggr
     → length words ≡ 1 + variables_of p (control_kind (slice_index words 0))
 task-size p words frame task = frame.size
     ∙ ap (λ b. cond b (1 + control_state (slice_index words 0)) (1 + variables_of p (control_kind (slice_index words 0)))) task
+
+-- words of the same length with the same control word are a frame of the task too
+pub same-head_frame : (p : Program) (old new : List ℕ) → IsFrame p old → is_aggregate (slice_index old 0) ≡ false → length new ≡ length old
+    → slice_index new 0 ≡ slice_index old 0 → IsFrame p new
+same-head_frame p old new frame task long head = record {
+  size = long ∙ (frame.size ∙ ap (frame_length p) (sym head));
+  few = omega (arith, long, frame.few);
+  control = omega (arith, head, frame.control);
+  says = subst (λ b. cond b (IsAggregateFrame (slice_index new)) (IsKindControl p (slice_index new 0))) (sym (ap is_aggregate head ∙ task))
+      (subst (IsKindControl p) (sym head) (frame-line p old frame task));
+}
 
 module _ (p : Program) (old new : List ℕ) (state at : ℕ) (frame : IsFrame p old) (task : is_aggregate (slice_index old 0) ≡ false) (as_long : length new ≡ length old)
     (head : slice_index new 0 ≡ control_word (control_kind (slice_index old 0)) state at) (line : at < length (code_at p (control_kind (slice_index old 0)) state))

@@ -1,5 +1,5 @@
 -- What holds of each member of a list.
-use Rattle.std.proofs.Common.{◌≡◌, ℕ, zero, suc, Option, Some, None, List, [], ◌∷◌, ◌++◌, slice_get, IfSome, subst}
+use Rattle.std.proofs.Common.{◌≡◌, zero, suc, Option, Some, None, List, [], ◌∷◌, ◌++◌, IfSome, subst}
 use Rattle.std.specs.Option.{option_to_list}
 use Rattle.task_syntax.specs.Places.{Each}
 

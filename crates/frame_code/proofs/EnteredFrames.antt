@@ -1,30 +1,28 @@
 -- A frame that enters a state, and an aggregate's that enters its next activation.
-use Rattle.std.proofs.Common.{◌≡◌, ◌≢◌, ℕ, zero, suc, ◌+◌, ◌<◌, ◌≤◌, Bool, true, false, cond, nat_eq, Option, Some, None, List, [], ◌∷◌, length, slice_get, slice_index, slice_set, refl, sym, ◌∙◌, ap, subst, inl, inr, arith}
-use Rattle.std.specs.List.{refill, filter_map}
+use Rattle.std.proofs.Common.{◌≡◌, ℕ, zero, suc, ◌+◌, ◌<◌, ◌≤◌, true, false, cond, nat_eq, Some, List, length, slice_get, slice_index, refl, sym, ◌∙◌, ap, subst, arith}
+use Rattle.std.specs.List.{filter_map}
 use Rattle.std.proofs.lemmas.List.{get_or-set_same, get_or-set_other, length-set}
 use Rattle.std.proofs.lemmas.Bool.{eqb-true}
 use Rattle.task_syntax.specs.Facts.{at_start}
 use Rattle.task_syntax.specs.Form.{IsWellFormed, IsFormedState, IsFormedKind, IsFormedInstr}
-use Rattle.task_syntax.specs.Valid.{Way, starts}
-use Rattle.task_syntax.specs.declared.value.Priority.{Priority}
+use Rattle.task_syntax.specs.Valid.{starts}
 use Rattle.task_syntax.specs.declared.instr.Instr.{Instr}
 use Rattle.task_syntax.specs.declared.instr.Instr.TheVariants.{Again}
 use Rattle.task_syntax.specs.declared.instr.Line.{Line}
 use Rattle.task_syntax.specs.declared.program.State.{State}
 use Rattle.task_syntax.specs.declared.program.Kind.{Kind}
 use Rattle.task_syntax.specs.declared.program.Program.{Program}
-use Rattle.task_meaning.specs.Frame.{FrameOf, variables_of, code_at, code_in, state_in, state_at}
+use Rattle.task_meaning.specs.Frame.{variables_of, code_at, code_in, state_in, state_at}
 use Rattle.frame_code.specs.Control.{aggregate_code, control_word, control_kind, control_state, control_at, is_aggregate}
-use Rattle.frame_code.specs.Words.{BodyOf, OfKind, OfMembers, unit_named, words_from, members_at, frame_at, body_of}
-use Rattle.frame_code.specs.Frames.{frame_length, IsKindControl, IsAggregateFrame, IsFrame}
+use Rattle.frame_code.specs.Words.{OfMembers, unit_named, words_from, members_at, body_of}
+use Rattle.frame_code.specs.Frames.{IsKindControl, IsAggregateFrame, IsFrame}
 use Rattle.frame_code.specs.Moves.{IsRespawn, MayEnter, entered}
-use Rattle.frame_code.specs.Ways.{HasWay, BodyHasWay}
-use Rattle.frame_code.specs.Run.{unpacked, IsMovedTo}
-use Rattle.frame_code.specs.declared.words.Control.{Control}
+use Rattle.frame_code.specs.Ways.{BodyHasWay}
+use Rattle.frame_code.specs.Run.{IsMovedTo}
 use Rattle.frame_code.proofs.HeldActs.{item-within}
 use Rattle.frame_code.proofs.ControlWords.{kind-of_word, state-of_word, at-of_word, word-fits, frame-members}
-use Rattle.frame_code.proofs.Aggregates.{refill-same, body-of_task, body-of_members, members-known}
-use Rattle.frame_code.proofs.MovedFrames.{IsLineOf, line-of, moved-is_frame, moved-body}
+use Rattle.frame_code.proofs.Aggregates.{body-of_task, body-of_members, members-known}
+use Rattle.frame_code.proofs.MovedFrames.{line-of, moved-is_frame, moved-body}
 
 -- the target of a respawn is a state of the kind, which has a line
 pub record IsTarget (p : Program) (kind target : ℕ) : Type 0 where

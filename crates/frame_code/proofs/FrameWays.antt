@@ -1,17 +1,15 @@
 -- Going on keeps the futures of a frame, and where there was a way to its line there is one to the next.
-use Rattle.std.proofs.Common.{◌≡◌, ℕ, ◌+◌, ◌<◌, Option, Some, None, List, length, slice_get, slice_set, refl, sym, ◌∙◌, ap, subst, inl, inr, arith}
+use Rattle.std.proofs.Common.{◌≡◌, ◌+◌, Some, slice_get, refl, sym, ◌∙◌, ap, subst, inl, inr}
 use Rattle.std.specs.Option.{option_map}
 use Rattle.task_syntax.specs.Places.{instr_at}
 use Rattle.task_syntax.specs.Form.{Leaves}
-use Rattle.task_syntax.specs.Facts.{Facts, after}
-use Rattle.task_syntax.specs.Valid.{Way, starts, goes_on, jumps}
-use Rattle.task_syntax.specs.declared.instr.Instr.{Instr}
+use Rattle.task_syntax.specs.Facts.{after}
+use Rattle.task_syntax.specs.Valid.{Way, goes_on, jumps}
 use Rattle.task_syntax.specs.declared.instr.Line.{Line}
 use Rattle.task_syntax.specs.declared.program.State.{State}
 use Rattle.task_syntax.specs.declared.program.Program.{Program}
 use Rattle.task_syntax.specs.declared.columns.Columns.{Columns}
 use Rattle.task_meaning.specs.Frame.{FrameOf, code_in, code_at, state_at}
-use Rattle.frame_code.specs.Names.{present}
 use Rattle.frame_code.specs.Stops.{Passes, GoesTo, stays, passes}
 use Rattle.frame_code.specs.Ways.{HasWay}
 use Rattle.frame_code.proofs.Formed.{Moves, passes-moves}

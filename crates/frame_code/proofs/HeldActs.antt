@@ -1,16 +1,16 @@
 -- In a valid program the futures of what a task asks for are held where it stands, and what it reads is settled.
-use Rattle.std.proofs.Common.{◌≡◌, ℕ, ◌<◌, Option, Some, None, List, [], ◌∷◌, ◌++◌, length, slice_get, IfSome, refl, sym, ◌∙◌, ap, subst, inl, inr, arith}
+use Rattle.std.proofs.Common.{◌≡◌, ℕ, ◌<◌, Option, Some, None, List, [], ◌∷◌, length, slice_get, refl, sym, ◌∙◌, ap, subst, inl, inr, arith}
 use Rattle.std.specs.Option.{option_map, option_to_list}
 use Rattle.std.proofs.lemmas.Option.{slice_get_cases}
-use Rattle.task_syntax.specs.Places.{Each, instr_at}
+use Rattle.task_syntax.specs.Places.{Each}
 use Rattle.task_syntax.specs.Form.{IsWellFormed, IsFormedInstr}
-use Rattle.task_syntax.specs.Valid.{IsValid, IsSoundInstr, Held, Settled, HeldArgument, SpawnsSoundly, RespawnsSoundly}
+use Rattle.task_syntax.specs.Valid.{IsValid, IsSoundInstr, Held, HeldArgument, SpawnsSoundly, RespawnsSoundly}
 use Rattle.task_syntax.specs.declared.value.Value.{Value}
 use Rattle.task_syntax.specs.declared.value.Value.TheVariants as value
 use Rattle.task_syntax.specs.declared.instr.Argument.{Argument}
 use Rattle.task_syntax.specs.declared.instr.Argument.TheVariants as argument
 use Rattle.task_syntax.specs.declared.instr.Instr.{Instr}
-use Rattle.task_syntax.specs.declared.instr.Instr.TheVariants.{Set, Math, If, Goto, Label, Cell, Rows, Spawn, All, Copy, Drop, Get, Again, Done}
+use Rattle.task_syntax.specs.declared.instr.Instr.TheVariants.{Math, Cell, Spawn, All, Copy, Drop, Get, Again, Done}
 use Rattle.task_syntax.specs.declared.instr.Line.{Line}
 use Rattle.task_syntax.specs.declared.program.State.{State}
 use Rattle.task_syntax.specs.declared.program.Kind.{Kind}

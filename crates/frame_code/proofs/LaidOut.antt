@@ -1,13 +1,13 @@
 -- The words of a task, laid out for its kind: what a number variable reads, and what setting it leaves.
-use Rattle.std.proofs.Common.{◌≡◌, ◌≢◌, ℕ, ◌+◌, ◌<◌, ◌≤◌, List, length, take, slice_index, slice_set, refl, sym, ◌∙◌, ap, arith}
-use Rattle.std.proofs.lemmas.List.{get_or-set_same, get_or-set_other, length-set}
-use Rattle.task_syntax.specs.declared.program.Sort.TheVariants.{Number, Future}
+use Rattle.std.proofs.Common.{◌≡◌, ◌≢◌, ℕ, ◌+◌, ◌<◌, ◌≤◌, List, length, slice_index, slice_set, sym, ◌∙◌, ap, arith}
+use Rattle.std.proofs.lemmas.List.{get_or-set_same, get_or-set_other}
+use Rattle.task_syntax.specs.declared.program.Sort.TheVariants.{Number}
 use Rattle.task_syntax.specs.declared.program.Kind.{Kind}
 use Rattle.task_syntax.specs.Places.{IsNumberAt}
 use Rattle.task_meaning.specs.Frame.{set_number}
-use Rattle.frame_code.specs.Words.{number_count, numbers_from, futures_from, kind_frame}
+use Rattle.frame_code.specs.Words.{number_count, futures_from}
 use Rattle.frame_code.specs.Layout.{number_place}
-use Rattle.frame_code.specs.Line.{places_from, IsLaidOut, numbers_of, standing}
+use Rattle.frame_code.specs.Line.{IsLaidOut, numbers_of, standing}
 use Rattle.frame_code.proofs.Variables.{sort-within, places-at, length-places, count-most, count-before, number-reads, number-sets, futures-same}
 
 module _ (kind : Kind) (x : ℕ) (number : IsNumberAt kind x) where

@@ -18,3 +18,5 @@ pub mod NameChanges
 pub mod WordsOfBody
 pub mod WayLaws
 pub mod AllowedMoves
+pub mod SetFrames
+pub mod EntryFrames

@@ -1,12 +1,12 @@
 -- What comes of one line.
-use Rattle.std.proofs.Common.{◌≡◌, ℕ, ◌+◌, Bool, true, false, Option, Some, None, List, refl, sym, ◌∙◌, ap, subst}
+use Rattle.std.proofs.Common.{◌≡◌, ℕ, ◌+◌, List, refl, sym, ap, subst}
 use Rattle.task_syntax.specs.declared.value.Value.{Value}
-use Rattle.task_syntax.specs.declared.value.Value.TheVariants.{Number, Trapped}
+use Rattle.task_syntax.specs.declared.value.Value.TheVariants.{Number}
 use Rattle.task_syntax.specs.declared.program.Kind.{Kind}
 use Rattle.task_meaning.specs.Frame.{set_number}
 use Rattle.task_meaning.specs.Acts.{Steps}
 use Rattle.frame_code.specs.Line.{IsPut, standing}
-use Rattle.frame_code.specs.declared.line.Step.TheVariants.{Goes, Traps, Asks}
+use Rattle.frame_code.specs.declared.line.Step.TheVariants.{Goes}
 
 -- a number is set, and the task goes on
 pub put-goes : (kind : Kind) (v : Value) (at to n : ℕ) (old new : List ℕ) → v ≡ Number n → standing kind new (at + 1) ≡ set_number (standing kind old at) to n

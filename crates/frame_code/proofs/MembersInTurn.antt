@@ -1,11 +1,11 @@
 -- What an aggregate asks for is its meaning, and its members are those of its words.
-use Rattle.std.proofs.Common.{◌≡◌, ℕ, zero, suc, ◌+◌, ◌<◌, ◌≤◌, Option, Some, None, List, [], ◌∷◌, length, drop, slice_get, refl, sym, ◌∙◌, ap, subst, arith}
+use Rattle.std.proofs.Common.{◌≡◌, ℕ, zero, suc, ◌+◌, ◌<◌, ◌≤◌, Option, Some, None, List, [], ◌∷◌, length, drop, slice_get, refl, sym, ◌∙◌, ap, arith}
 use Rattle.std.specs.List.{filter_map}
 use Rattle.task_syntax.specs.declared.value.Value.{Value}
 use Rattle.task_syntax.specs.declared.value.Value.TheVariants.{Number}
-use Rattle.task_meaning.specs.Meant.{Counts, Meant, counted, nothing, gives, plus, adding, with_value, future_at, behind_all}
+use Rattle.task_meaning.specs.Meant.{Counts, Meant, counted, gives, plus, adding, with_value, future_at, behind_all}
 use Rattle.frame_code.specs.Words.{unit_named, words_from}
-use Rattle.frame_code.specs.Members.{member_act, members_mean, behind_member, member_follows, AggregatesAreInTurn}
+use Rattle.frame_code.specs.Members.{member_act, members_mean, member_follows, AggregatesAreInTurn}
 
 follows-shifted : (meant : ℕ → Option Value) (m : ℕ) (ms : List ℕ) (next : ℕ) (o : Option ℕ)
     → member_follows meant ms (member_act o next) ≡ member_follows meant (m ∷ ms) (member_act o (suc next))

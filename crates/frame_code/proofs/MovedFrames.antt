@@ -1,14 +1,12 @@
 -- A task's frame that is moved to another line: which frame it is then.
-use Rattle.std.proofs.Common.{◌≡◌, ◌≢◌, ℕ, ◌+◌, ◌<◌, ◌≤◌, Bool, true, false, cond, Option, Some, None, List, length, slice_get, slice_index, slice_set, refl, sym, ◌∙◌, ap, subst, arith}
+use Rattle.std.proofs.Common.{◌≡◌, ◌≢◌, ℕ, ◌<◌, Bool, true, false, cond, Option, Some, None, List, length, slice_get, slice_index, refl, ◌∙◌, ap, subst, arith}
 use Rattle.std.specs.List.{refill}
 use Rattle.std.proofs.lemmas.List.{get_or-set_same, get_or-set_other, length-set}
-use Rattle.std.proofs.lemmas.Option.{slice_get_within}
-use Rattle.task_syntax.specs.Form.{IsWellFormed, IsFormedState, IsFormedInstr}
 use Rattle.task_syntax.specs.declared.instr.Line.{Line}
 use Rattle.task_syntax.specs.declared.program.State.{State}
 use Rattle.task_syntax.specs.declared.program.Kind.{Kind}
 use Rattle.task_syntax.specs.declared.program.Program.{Program}
-use Rattle.task_meaning.specs.Frame.{FrameOf, code_at, code_in, state_in}
+use Rattle.task_meaning.specs.Frame.{code_at, code_in, state_in}
 use Rattle.frame_code.specs.Control.{control_word, control_kind, control_state, control_at, is_aggregate}
 use Rattle.frame_code.specs.Words.{BodyOf, OfKind, OfMembers, variables_at, kind_frame, frame_at, members_at, body_of}
 use Rattle.frame_code.specs.Frames.{IsFrame}

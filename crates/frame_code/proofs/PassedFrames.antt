@@ -1,35 +1,32 @@
 -- A task's frame that goes past its line: by `pass_on`, and by `give` with a number set.
-use Rattle.std.proofs.Common.{◌≡◌, ◌≢◌, ℕ, ◌+◌, ◌<◌, Bool, false, cond, Option, Some, None, List, length, slice_get, slice_index, slice_set, refl, sym, ◌∙◌, ap, subst, arith}
+use Rattle.std.proofs.Common.{◌≡◌, ℕ, ◌+◌, ◌<◌, false, Some, List, length, slice_get, slice_index, slice_set, refl, sym, ◌∙◌, ap, subst, arith}
 use Rattle.std.specs.List.{refill}
 use Rattle.std.proofs.lemmas.List.{get_or-set_other, length-set}
-use Rattle.std.proofs.lemmas.Option.{slice_get_within}
 use Rattle.task_syntax.specs.Places.{IsNumberAt}
 use Rattle.task_syntax.specs.Form.{IsWellFormed, IsFormedState, IsFormedInstr, Leaves}
 use Rattle.task_syntax.specs.declared.instr.Instr.{Instr}
 use Rattle.task_syntax.specs.declared.instr.Instr.TheVariants.{Spawn, All, Copy, Drop, Get}
 use Rattle.task_syntax.specs.declared.instr.Line.{Line}
-use Rattle.task_syntax.specs.declared.program.Sort.TheVariants.{Number}
 use Rattle.task_syntax.specs.declared.program.State.{State}
 use Rattle.task_syntax.specs.declared.program.Kind.{Kind}
 use Rattle.task_syntax.specs.declared.program.Program.{Program}
 use Rattle.task_meaning.specs.Frame.{FrameOf, code_at, code_in, state_in, go_on, set_number, variables_in}
 use Rattle.frame_code.specs.Control.{control_kind, control_state, control_at, is_aggregate}
-use Rattle.frame_code.specs.Words.{BodyOf, OfKind, OfMembers, variable_list, variables_at, kind_frame, frame_at, body_of}
+use Rattle.frame_code.specs.Words.{OfKind, variable_list, variables_at, kind_frame, frame_at, body_of}
 use Rattle.frame_code.specs.Layout.{number_place}
-use Rattle.frame_code.specs.Frames.{frame_length, IsKindControl, IsAggregateFrame, IsFrame}
-use Rattle.frame_code.specs.Stops.{StandsAt}
+use Rattle.frame_code.specs.Frames.{IsFrame}
 use Rattle.frame_code.specs.Moves.{IsRead, IsPassed, MayGive, MayPass, BodyIsGiven, passed_on}
 use Rattle.frame_code.specs.Ways.{BodyKeepsWay}
 use Rattle.frame_code.specs.Line.{standing}
 use Rattle.frame_code.specs.Run.{unpacked, IsMovedTo}
 use Rattle.frame_code.specs.declared.words.Control.{Control}
-use Rattle.frame_code.proofs.Variables.{sort-within, count-most}
+use Rattle.frame_code.proofs.Variables.{count-most}
 use Rattle.frame_code.proofs.LaidOut.{place-low, place-high, set-at_place}
 use Rattle.frame_code.proofs.Formed.{line-follows}
-use Rattle.frame_code.proofs.ControlWords.{state-fits, task-size, frame-line}
+use Rattle.frame_code.proofs.ControlWords.{state-fits, task-size, same-head_frame}
 use Rattle.frame_code.proofs.FrameWays.{way-on}
 use Rattle.frame_code.proofs.Aggregates.{refill-same, body-of_task}
-use Rattle.frame_code.proofs.MovedFrames.{task-stands, IsLineOf, line-of, moved-words, moved-is_frame, moved-is_task, moved-body}
+use Rattle.frame_code.proofs.MovedFrames.{task-stands, IsLineOf, line-of, moved-is_frame, moved-body}
 
 -- behind a spawn, an aggregate, a copy, a drop and a read a task goes on
 pub passed-remains : (instr : Instr) → IsPassed instr → ¬ Leaves instr
@@ -161,13 +158,7 @@ module _ (p : Program) (old : List ℕ) (line : Line) (formed : IsWellFormed p) 
           let a : ℕ = control_at (slice_index old 0) in
           let same_head : slice_index set 0 ≡ slice_index old 0 = ap (λ (l : List ℕ). slice_index l 0) is_set
           ∙ get_or-set_other old (number_place kind.variables to) 0 n 0 (λ e. omega (arith, e, place-low kind to read-number)) in
-          let set_frame : IsFrame p set = record {
-            size = ap length is_set ∙ (length-set old _ n ∙ (frame.size ∙ ap (frame_length p) (sym same_head)));
-            few = omega (arith, ap length is_set, length-set old (number_place kind.variables to) n, frame.few);
-            control = omega (arith, same_head, frame.control);
-            says = subst (λ b. cond b (IsAggregateFrame (slice_index set)) (IsKindControl p (slice_index set 0))) (sym (ap is_aggregate same_head ∙ past.task))
-                (subst (IsKindControl p) (sym same_head) (frame-line p old frame past.task));
-          } in
+          let set_frame : IsFrame p set = same-head_frame p old set frame past.task (ap length is_set ∙ length-set old _ n) same_head in
           let vs_set : variables_at p (control_kind (slice_index set 0)) ≡ kind.variables = ap (λ h. variables_at p (control_kind h)) same_head ∙ read-variables in
           let set_numbers : standing kind set (a + 1) ≡ set_number (standing kind old a) to n
           = ap (λ l. standing kind l (a + 1)) is_set ∙ set-at_place kind to read-number old n a read-within in

@@ -1,27 +1,27 @@
 -- A run over the lines of a state, at a frame whose control word says this kind and this state.
-use Rattle.std.proofs.Common.{◌≡◌, ◌≢◌, ℕ, ◌+◌, ◌<◌, ◌≤◌, false, Option, Some, None, List, length, slice_get, slice_index, slice_set, refl, sym, ◌∙◌, ap, subst, arith}
+use Rattle.std.proofs.Common.{◌≡◌, ◌≢◌, ℕ, ◌+◌, ◌<◌, false, Some, None, List, length, slice_get, slice_index, sym, ◌∙◌, ap, subst, arith}
 use Rattle.std.proofs.lemmas.List.{get_or-set_same, get_or-set_other, length-set}
 use Rattle.std.proofs.lemmas.Option.{slice_get_within}
-use Rattle.task_syntax.specs.Form.{IsWellFormed, IsFormedState, IsFormedInstr}
+use Rattle.task_syntax.specs.Form.{IsWellFormed, IsFormedState}
 use Rattle.task_syntax.specs.declared.instr.Line.{Line}
 use Rattle.task_syntax.specs.declared.program.Variable.{Variable}
 use Rattle.task_syntax.specs.declared.program.State.{State}
 use Rattle.task_syntax.specs.declared.program.Kind.{Kind}
 use Rattle.task_syntax.specs.declared.program.Program.{Program}
 use Rattle.task_syntax.specs.declared.columns.Columns.{Columns}
-use Rattle.task_meaning.specs.Frame.{FrameOf, code_at, code_in, state_in, state_at}
+use Rattle.task_meaning.specs.Frame.{FrameOf, code_at, code_in, state_in}
 use Rattle.task_meaning.specs.Acts.{Steps, act_of}
 use Rattle.frame_code.specs.Control.{control_word, control_kind, control_state, control_at, is_aggregate}
 use Rattle.frame_code.specs.Words.{number_count, numbers_from, futures_from, kind_frame, frame_at, variable_list, variables_at}
 use Rattle.frame_code.specs.Frames.{IsFrame}
-use Rattle.frame_code.specs.Stops.{stop_at, StopsAt, Passes, GoesTo, stays, passes}
+use Rattle.frame_code.specs.Stops.{stop_at, StopsAt, GoesTo, passes}
 use Rattle.frame_code.specs.Line.{FitsKind, standing}
 use Rattle.frame_code.specs.Run.{unpacked, IsMovedTo, IsRun}
 use Rattle.frame_code.specs.declared.act.Act.{Act}
 use Rattle.frame_code.specs.declared.words.Control.{Control}
 use Rattle.frame_code.proofs.Variables.{numbers-same, futures-same}
-use Rattle.frame_code.proofs.Formed.{formed-fits, Moves, passes-moves, next-line}
-use Rattle.frame_code.proofs.ControlWords.{state-fits, frame-line, task-size, moved-kind, moved-state, moved-at, moved-task, moved-frame}
+use Rattle.frame_code.proofs.Formed.{formed-fits, passes-moves, next-line}
+use Rattle.frame_code.proofs.ControlWords.{state-fits, task-size, moved-kind, moved-state, moved-at, moved-task, moved-frame}
 
 -- the control word says this kind and this state
 pub record StandsIn (p : Program) (head : ℕ) (kind : Kind) (state : State) : Type 0 where

@@ -1,10 +1,11 @@
 -- Where the words of the variables stand, and what a word changes.
-use Rattle.std.proofs.Common.{◌≡◌, ◌≢◌, ℕ, zero, suc, ◌+◌, ◌<◌, ◌≤◌, Option, Some, None, List, [], ◌∷◌, length, take, slice_get, slice_index, slice_set, refl, sym, ◌∙◌, ap, subst, arith}
+use Rattle.std.proofs.Common.{◌≡◌, ◌≢◌, ℕ, zero, suc, ◌+◌, ◌<◌, ◌≤◌, Some, List, [], ◌∷◌, length, take, slice_get, slice_index, slice_set, refl, ◌∙◌, ap, arith}
 use Rattle.std.specs.Option.{option_map}
 use Rattle.task_syntax.specs.declared.program.Sort.{Sort}
 use Rattle.task_syntax.specs.declared.program.Sort.TheVariants.{Number, Future}
 use Rattle.task_syntax.specs.declared.program.Variable.{Variable}
-use Rattle.frame_code.specs.Words.{one_if_number, one_if_future, number_count, number_if, numbers_from, future_if, futures_from}
+use Rattle.task_meaning.specs.Meant.{future_at}
+use Rattle.frame_code.specs.Words.{one_if_number, one_if_future, number_count, future_count, unit_named, number_if, numbers_from, future_if, futures_from}
 use Rattle.frame_code.specs.Line.{places_from}
 
 -- the variable at a position is of this sort
@@ -95,3 +96,49 @@ number-sets w w' place (v ∷ vs) (suc x) n s e h =
     head : (t : Sort) → v.sort ≡ t → number_if t (w' place) ≡ number_if t (w place)
     head Number t = let o : one_if_number v.sort ≡ 1 = ap one_if_number t in h place (λ same. omega (arith, same, o))
     head Future t = refl
+
+one-each : (s : Sort) → one_if_number s + one_if_future s ≡ 1
+one-each Number = refl
+one-each Future = refl
+
+-- each variable is a number or a future
+pub both-counts : (vs : List Variable) → number_count vs + future_count vs ≡ length vs
+both-counts [] = refl
+both-counts (v ∷ vs) = omega (arith, one-each v.sort, both-counts vs)
+
+-- of those before a variable too
+pub counts-before : (vs : List Variable) (x : ℕ) → x ≤ length vs → number_count (take x vs) + future_count (take x vs) ≡ x
+counts-before vs zero h = refl
+counts-before [] (suc x) h = absurd (omega (arith, h))
+counts-before (v ∷ vs) (suc x) h = omega (arith, one-each v.sort, counts-before vs x (omega (arith, h)))
+
+pub futures-before : (vs : List Variable) (x : ℕ) → IsSort vs x Future → future_count (take x vs) < future_count vs
+futures-before [] x e = cc
+futures-before (v ∷ vs) zero e = let s : v.sort ≡ Future = cc in let o : one_if_future v.sort ≡ 1 = ap one_if_future s in omega arith
+futures-before (v ∷ vs) (suc x) e = omega (arith, futures-before vs x e)
+
+-- a future variable names what its word does
+pub future-reads : (w : ℕ → ℕ) (place : ℕ) (vs : List Variable) (x : ℕ) → IsSort vs x Future
+    → future_at (futures_from w place vs) x ≡ unit_named (w (place + future_count (take x vs)))
+future-reads w place [] x e = cc
+future-reads w place (v ∷ vs) zero e = let s : v.sort ≡ Future = cc in ap (λ t. future_if t (w place)) s ∙ ap (λ (k : ℕ). unit_named (w k)) (omega arith)
+future-reads w place (v ∷ vs) (suc x) e = future-reads w (place + one_if_future v.sort) vs x e ∙ ap (λ (k : ℕ). unit_named (w k)) (omega arith)
+
+-- a word that changes at the place of a future variable sets that variable alone
+pub future-sets : (w w' : ℕ → ℕ) (place : ℕ) (vs : List Variable) (x word : ℕ) → IsSort vs x Future → w' (place + future_count (take x vs)) ≡ word
+    → ((k : ℕ) → k ≢ place + future_count (take x vs) → w' k ≡ w k) → futures_from w' place vs ≡ slice_set (futures_from w place vs) x (unit_named word)
+future-sets w w' place [] x word s e h = cc
+future-sets w w' place (v ∷ vs) zero word s e h =
+    let t : v.sort ≡ Future = cc in
+    let o : one_if_future v.sort ≡ 1 = ap one_if_future t in
+    let a : future_if v.sort (w' place) ≡ unit_named word = ap (λ t. future_if t (w' place)) t ∙ ap unit_named (ap w' (omega arith) ∙ e) in
+    let b : futures_from w' (place + one_if_future v.sort) vs ≡ futures_from w (place + one_if_future v.sort) vs
+    = futures-same w w' (place + one_if_future v.sort) vs (λ k low. h k (λ same. omega (arith, low, same, o))) in cc
+future-sets w w' place (v ∷ vs) (suc x) word s e h =
+    let a : future_if v.sort (w' place) ≡ future_if v.sort (w place) = head v.sort refl in
+    let b : futures_from w' (place + one_if_future v.sort) vs ≡ slice_set (futures_from w (place + one_if_future v.sort) vs) x (unit_named word)
+    = future-sets w w' (place + one_if_future v.sort) vs x word s (ap w' (omega arith) ∙ e) (λ k other. h k (λ same. other (omega (arith, same)))) in cc
+  where
+    head : (t : Sort) → v.sort ≡ t → future_if t (w' place) ≡ future_if t (w place)
+    head Number t = refl
+    head Future t = let o : one_if_future v.sort ≡ 1 = ap one_if_future t in ap unit_named (h place (λ same. omega (arith, same, o)))

@@ -1,5 +1,5 @@
 -- There is a way to the line of an entry, and to that of a frame whose future was set.
-use Rattle.std.proofs.Common.{◌≡◌, ◌∙◌, ap, refl, slice_get}
+use Rattle.std.proofs.Common.{◌∙◌, ap, refl}
 use Rattle.task_syntax.specs.Facts.{at_start}
 use Rattle.task_syntax.specs.Valid.{starts}
 use Rattle.task_meaning.specs.Frame.{set_future, state_in}

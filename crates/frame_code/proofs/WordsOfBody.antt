@@ -1,5 +1,5 @@
 -- The words of a frame are those of the body that they say.
-use Rattle.std.proofs.Common.{◌≡◌, ℕ, zero, suc, ◌+◌, ◌-◌, ◌<◌, ◌≤◌, Bool, true, false, cond, Option, Some, None, List, [], ◌∷◌, ◌++◌, length, map, slice_get, slice_index, refl, sym, ◌∙◌, ap, subst, arith}
+use Rattle.std.proofs.Common.{◌≡◌, ℕ, zero, suc, ◌+◌, ◌<◌, ◌≤◌, Bool, true, false, cond, Option, Some, None, List, [], ◌∷◌, ◌++◌, length, map, slice_get, slice_index, refl, sym, ◌∙◌, ap, arith}
 use Rattle.std.specs.List.{filter_map}
 use Rattle.std.proofs.lemmas.Bool.{eqb-true}
 use Rattle.task_syntax.specs.Form.{IsWellFormed}
@@ -11,24 +11,12 @@ use Rattle.task_syntax.specs.declared.program.Program.{Program}
 use Rattle.task_meaning.specs.Frame.{variables_of, variables_in}
 use Rattle.kt_words.specs.HeadWords.{link_code}
 use Rattle.frame_code.specs.Control.{control_word, control_kind, control_state, control_at, is_aggregate}
-use Rattle.frame_code.specs.Words.{BodyOf, OfKind, OfMembers, variable_list, variables_at, one_if_number, one_if_future, number_count, number_if, numbers_from, unit_named, future_if, futures_from, words_from, members_at, frame_at, body_of}
+use Rattle.frame_code.specs.Words.{variable_list, variables_at, one_if_number, one_if_future, number_count, future_count, number_if, numbers_from, unit_named, future_if, futures_from, words_from, members_at, frame_at, body_of}
 use Rattle.frame_code.specs.Layout.{number_word, number_words, future_word, future_words, frame_words, members_words, words_of_body}
 use Rattle.frame_code.specs.Frames.{IsFrame}
+use Rattle.frame_code.proofs.Variables.{both-counts}
 use Rattle.frame_code.proofs.ControlWords.{word-of_parts, task-size, frame-members}
 use Rattle.frame_code.proofs.Aggregates.{body-of_task, body-of_members, members-known}
-
--- how many of the variables are futures
-abbrev future_count : List Variable → ℕ
-future_count [] = 0
-future_count (v ∷ vs) = one_if_future v.sort + future_count vs
-
-one-each : (s : Sort) → one_if_number s + one_if_future s ≡ 1
-one-each Number = refl
-one-each Future = refl
-
-both-counts : (vs : List Variable) → number_count vs + future_count vs ≡ length vs
-both-counts [] = refl
-both-counts (v ∷ vs) = omega (arith, one-each v.sort, both-counts vs)
 
 words-one_more : (w : ℕ → ℕ) (place n : ℕ) → words_from w place (1 + n) ≡ w place ∷ words_from w (place + 1) n
 words-one_more w place n = let e : 1 + n ≡ suc n = omega arith in ap (words_from w place) e

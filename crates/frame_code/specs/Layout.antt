@@ -1,5 +1,5 @@
 -- The words that say a body. Read together with `body_of` they tell where each variable stands.
-use Rattle.std.specs.Prelude.{◌≡◌, ℕ, suc, ◌+◌, ◌-◌, Option, List, [], ◌∷◌, ◌++◌, length, map, take}
+use Rattle.std.specs.Prelude.{◌≡◌, ℕ, suc, ◌+◌, Option, List, [], ◌∷◌, ◌++◌, length, map, take}
 use Rattle.task_syntax.specs.Form.{IsWellFormed}
 use Rattle.task_syntax.specs.declared.program.Sort.{Sort}
 use Rattle.task_syntax.specs.declared.program.Sort.TheVariants.{Number, Future}
@@ -8,7 +8,7 @@ use Rattle.task_syntax.specs.declared.program.Program.{Program}
 use Rattle.task_meaning.specs.Frame.{FrameOf}
 use Rattle.kt_words.specs.HeadWords.{link_code}
 use Rattle.frame_code.specs.Control.{aggregate_code, control_word}
-use Rattle.frame_code.specs.Words.{BodyOf, OfKind, OfMembers, number_count, variables_at, body_of}
+use Rattle.frame_code.specs.Words.{BodyOf, OfKind, OfMembers, number_count, future_count, variables_at, body_of}
 use Rattle.frame_code.specs.Frames.{IsFrame}
 
 -- where the word of a number variable stands: behind those of the numbers before it
@@ -17,7 +17,7 @@ number_place vs x = 1 + number_count (take x vs)
 
 -- where the word of a future variable stands: behind all numbers, and behind those of the futures before it
 abbrev pub future_place : List Variable → ℕ → ℕ
-future_place vs x = 1 + number_count vs + (x - number_count (take x vs))
+future_place vs x = 1 + number_count vs + future_count (take x vs)
 
 abbrev pub number_word : Sort → ℕ → List ℕ
 number_word Number n = n ∷ []

@@ -1,5 +1,5 @@
 -- One line of a task over the words of its frame, as the calls inside this crate say it.
-use Rattle.std.specs.Prelude.{◌≡◌, ℕ, ◌+◌, ◌<◌, ◌≤◌, Bool, Some, None, List, [], ◌∷◌, length, slice_index}
+use Rattle.std.specs.Prelude.{◌≡◌, ℕ, ◌+◌, ◌≤◌, Bool, Some, None, List, [], ◌∷◌, length, slice_index}
 use Rattle.task_syntax.specs.Places.{Each, IsNumberAt}
 use Rattle.task_syntax.specs.Form.{IsFormedOperand, IsFormedArgument}
 use Rattle.task_syntax.specs.declared.program.Variable.{Variable}
@@ -8,7 +8,7 @@ use Rattle.task_syntax.specs.declared.value.Value.{Value}
 use Rattle.task_syntax.specs.declared.instr.Operand.{Operand}
 use Rattle.task_syntax.specs.declared.instr.Relation.{Relation}
 use Rattle.task_syntax.specs.declared.instr.Instr.{Instr}
-use Rattle.task_syntax.specs.declared.instr.Instr.TheVariants.{Set, Math, If, Goto, Label, Cell, Rows, Spawn, All, Copy, Drop, Get, Again, Done}
+use Rattle.task_syntax.specs.declared.instr.Instr.TheVariants.{Set, Math, If, Cell, Rows, Spawn, All, Copy, Drop, Get, Again, Done}
 use Rattle.task_syntax.specs.declared.columns.Columns.{Columns}
 use Rattle.task_meaning.specs.Frame.{FrameOf, jump, set_number, operand}
 use Rattle.task_meaning.specs.Arithmetic.{compares}

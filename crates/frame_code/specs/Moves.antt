@@ -1,10 +1,9 @@
 -- How a frame moves once it got what it asked for, and when it may.
-use Rattle.std.specs.Prelude.{◌≡◌, ℕ, ◌+◌, ◌<◌, List, length}
+use Rattle.std.specs.Prelude.{◌≡◌, ℕ, ◌+◌, ◌<◌, length}
 use Rattle.task_syntax.specs.declared.instr.Instr.{Instr}
 use Rattle.task_syntax.specs.declared.instr.Instr.TheVariants.{Spawn, All, Copy, Drop, Get, Again}
-use Rattle.task_syntax.specs.declared.instr.Line.{Line}
 use Rattle.task_syntax.specs.declared.program.Program.{Program}
-use Rattle.task_meaning.specs.Frame.{FrameOf, go_on, set_number}
+use Rattle.task_meaning.specs.Frame.{go_on, set_number}
 use Rattle.frame_code.specs.Words.{BodyOf, OfKind, OfMembers}
 use Rattle.frame_code.specs.Stops.{StandsAt}
 use Rattle.frame_code.specs.declared.act.Act.{Act}

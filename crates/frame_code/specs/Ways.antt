@@ -1,5 +1,5 @@
 -- The frames that a task comes to: at their line a way of the checker's rules arrives.
-use Rattle.std.specs.Prelude.{◌≡◌, ℕ, ◌<◌, Option, Some, List, length}
+use Rattle.std.specs.Prelude.{◌≡◌, ℕ, ◌<◌, Option, Some, length}
 use Rattle.task_syntax.specs.Form.{IsWellFormed}
 use Rattle.task_syntax.specs.Facts.{Facts}
 use Rattle.task_syntax.specs.Valid.{Way}

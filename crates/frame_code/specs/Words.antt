@@ -37,6 +37,11 @@ abbrev pub number_count : List Variable → ℕ
 number_count [] = 0
 number_count (v ∷ vs) = one_if_number v.sort + number_count vs
 
+-- and how many are futures
+abbrev pub future_count : List Variable → ℕ
+future_count [] = 0
+future_count (v ∷ vs) = one_if_future v.sort + future_count vs
+
 abbrev pub number_if : Sort → ℕ → ℕ
 number_if Number word = word
 number_if Future word = 0

@@ -1,6 +1,6 @@
 ghost use Rattle.std.specs.Prelude.{◌≡◌, ◌+◌, ◌<◌, ◌≤◌, length};
 ghost use Rattle.frame_code.specs.Words.{number_count};
-ghost use Rattle.frame_code.specs.Layout.{number_place as place_of_number};
+ghost use Rattle.frame_code.specs.Layout.{number_place as place_of_number, future_place as place_of_future};
 ghost use Rattle.frame_code.specs.Line.{places_from};
 
 use arrayvec::ArrayVec;
@@ -26,6 +26,16 @@ pub fn number_place(variables: &[Variable], x: u16) -> usize
     ensures { result ≡ place_of_number variables.now x }
 {
     1 + count_numbers(&variables[..x as usize])
+}
+
+/// Where the word of a future variable stands.
+pub fn future_place(variables: &[Variable], x: u16) -> usize
+    requires few { length variables.now ≤ 63 }
+    requires within { x < length variables.now }
+    ensures { result ≡ place_of_future variables.now x }
+{
+    let before = x as usize - count_numbers(&variables[..x as usize]);
+    1 + count_numbers(variables) + before
 }
 
 /// Where the word of each number variable stands.

@@ -1,4 +1,4 @@
-use Rattle.std.proofs.Common.{◌≡◌, sym, ◌∙◌, ap, subst}
+use Rattle.std.proofs.Common.{sym, ◌∙◌, ap, subst}
 use Rattle.task_syntax.specs.Form.{IsFormedOperand}
 use Rattle.task_meaning.specs.Frame.{operand}
 use Rattle.frame_code.specs.Line.{numbers_of}

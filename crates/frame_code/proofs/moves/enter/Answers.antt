@@ -1,13 +1,11 @@
-use Rattle.std.proofs.Common.{◌≡◌, ◌+◌, ◌<◌, ℕ, true, false, List, length, slice_index, sym, ◌∙◌, ap, subst, arith}
+use Rattle.std.proofs.Common.{◌+◌, length, slice_index, ◌∙◌, ap, subst}
 use Rattle.std.specs.List.{refill}
-use Rattle.std.proofs.lemmas.List.{length-set}
-use Rattle.frame_code.specs.Control.{is_aggregate, control_at, control_state, control_kind}
+use Rattle.frame_code.specs.Control.{control_at, control_state}
 use Rattle.frame_code.specs.Run.{unpacked, IsMovedTo}
-use Rattle.frame_code.specs.declared.words.Control.{Control}
-use Rattle.frame_code.proofs.Aggregates.{refill-same, is-group, is-task}
+use Rattle.frame_code.proofs.Aggregates.{is-group, is-task}
 use Rattle.frame_code.proofs.PassedFrames.{written-next}
 use Rattle.frame_code.proofs.MovedFrames.{moved-words}
-use Rattle.frame_code.proofs.EnteredFrames.{task-target, entered-clauses, group-next, group-clauses}
+use Rattle.frame_code.proofs.EnteredFrames.{task-target, entered-clauses, group-clauses}
 use Rattle.frame_code.proofs.moves.enter.Goals as goal
 
 pub stand-requires-else-control-eq-AGGREGATE-clause-state : goal.stand-requires-else-control-eq-AGGREGATE-clause-state

@@ -1,4 +1,4 @@
-use Rattle.std.proofs.Common.{◌≡◌, ◌+◌, ℕ, List, length, slice_index, ◌∙◌, ap, subst, arith}
+use Rattle.std.proofs.Common.{◌≡◌, ◌+◌, ℕ, List, length, slice_index, ap, subst, arith}
 use Rattle.std.specs.List.{refill}
 use Rattle.frame_code.specs.Control.{control_at, control_state}
 use Rattle.frame_code.specs.Run.{unpacked, IsMovedTo}

@@ -1,4 +1,4 @@
-use Rattle.std.proofs.Common.{ℕ, length, slice_index, ◌∙◌, ap, sym}
+use Rattle.std.proofs.Common.{length, slice_index, ◌∙◌, ap}
 use Rattle.frame_code.specs.Run.{unpacked}
 use Rattle.frame_code.proofs.ControlWords.{frame-members}
 use Rattle.frame_code.proofs.Aggregates.{refill-same, is-group, member-asked, aggregate-acts, aggregate-meaning, aggregate-allows}

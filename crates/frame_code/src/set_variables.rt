@@ -1,0 +1,115 @@
+ghost use Rattle.std.specs.Prelude.{◌≡◌, ◌+◌, ◌<◌, ◌≤◌, ◌^◌, false, length, slice_index};
+ghost use Rattle.task_syntax.specs.declared.program.Sort.TheVariants.{Number as NumberSort, Future as FutureSort};
+ghost use Rattle.task_meaning.specs.Frame.{entry};
+ghost use Rattle.frame_code.specs.Control.{is_aggregate, control_kind};
+ghost use Rattle.frame_code.specs.Words.{OfKind, unit_named, variables_at, body_of};
+ghost use Rattle.frame_code.specs.Frames.{IsFrame};
+ghost use Rattle.frame_code.specs.Setting.{HasSort, bare_call, unit_in, IsSetNumber, IsSetFuture};
+
+use crate::lookup::kind_at;
+use crate::places::{future_place, number_place};
+use crate::words::{Control, Frame};
+use arrayvec::ArrayVec;
+use task_syntax::{Checked, Variable};
+
+/// The frame of a task at the start of its entry state, before its arguments are set.
+pub fn at_entry(checked: &Checked, kind: u16) -> Frame
+    requires { kind < length checked.now.kinds }
+    ensures frame { IsFrame checked.now result.items }
+    ensures entry { body_of checked.now result.items ≡ OfKind (entry checked.now (bare_call kind)) }
+{
+    let variables = kind_at(checked.program(), kind).variables.len();
+    let control = Control {
+        kind,
+        state: 0,
+        at: 0,
+    };
+    let mut frame = ArrayVec::new();
+    frame.push(control.pack());
+    for _variable in 0..variables {
+        frame.push(0);
+    }
+    frame
+}
+
+/// The variables of the kind of a task's frame.
+fn variables_of<'a>(checked: &'a Checked, words: &[u64]) -> &'a [Variable]
+    requires frame { IsFrame checked.now words.now }
+    requires task { is_aggregate (slice_index words.now 0) ≡ false }
+    ensures same { result.now ≡ variables_at checked.now (control_kind (slice_index words.now 0)) }
+    ensures few { length result.now ≤ 63 }
+{
+    kind_at(checked.program(), Control::unpack(words[0]).kind)
+        .variables
+        .as_slice()
+}
+
+/// Sets a number variable of a frame.
+pub fn set_number(checked: &Checked, frame: &mut Frame, x: u16, number: u64)
+    requires frame { IsFrame checked.now frame.old.items }
+    requires variable { HasSort checked.now NumberSort x frame.old.items }
+    ensures frame { IsFrame checked.now frame.new.items }
+    ensures set { IsSetNumber checked.now x number frame.old.items frame.new.items }
+{
+    let words = frame.as_mut_slice();
+    let place = number_place(variables_of(checked, words), x);
+    words[place] = number;
+}
+
+/// The unit that a future word names, if any.
+fn unit_of(word: u64) -> Option<u64>
+    ensures { result ≡ unit_named word }
+{
+    match word {
+        0 => None,
+        _ => Some(word - 1),
+    }
+}
+
+/// Puts a word into a future variable, and gives the old one.
+fn exchange(checked: &Checked, words: &mut [u64], x: u16, word: u64) -> u64
+    requires frame { IsFrame checked.now words.old }
+    requires variable { HasSort checked.now FutureSort x words.old }
+    ensures frame { IsFrame checked.now words.new }
+    ensures old { unit_named result ≡ unit_in checked.now words.old x }
+    ensures set { IsSetFuture checked.now x (unit_named word) words.old words.new }
+{
+    let place = future_place(variables_of(checked, words), x);
+    let old = words[place];
+    words[place] = word;
+    old
+}
+
+/// Lets a future variable name a unit, and tells which one it named before, if any.
+pub fn assign(checked: &Checked, frame: &mut Frame, to: u16, unit: u64) -> Option<u64>
+    requires frame { IsFrame checked.now frame.old.items }
+    requires variable { HasSort checked.now FutureSort to frame.old.items }
+    requires unit { unit + 1 < 2 ^ 64 }
+    ensures frame { IsFrame checked.now frame.new.items }
+    ensures old { result ≡ unit_in checked.now frame.old.items to }
+    ensures set { IsSetFuture checked.now to (Some unit) frame.old.items frame.new.items }
+{
+    unit_of(exchange(checked, frame.as_mut_slice(), to, unit + 1))
+}
+
+/// Lets a future variable name nothing, and tells which unit it named before, if any.
+pub fn lift(checked: &Checked, frame: &mut Frame, x: u16) -> Option<u64>
+    requires frame { IsFrame checked.now frame.old.items }
+    requires variable { HasSort checked.now FutureSort x frame.old.items }
+    ensures frame { IsFrame checked.now frame.new.items }
+    ensures old { result ≡ unit_in checked.now frame.old.items x }
+    ensures set { IsSetFuture checked.now x None frame.old.items frame.new.items }
+{
+    unit_of(exchange(checked, frame.as_mut_slice(), x, 0))
+}
+
+/// The unit that a future variable names, if any.
+pub fn future(checked: &Checked, frame: &Frame, x: u16) -> Option<u64>
+    requires frame { IsFrame checked.now frame.now.items }
+    requires variable { HasSort checked.now FutureSort x frame.now.items }
+    ensures { result ≡ unit_in checked.now frame.now.items x }
+{
+    let words = frame.as_slice();
+    let place = future_place(variables_of(checked, words), x);
+    unit_of(words[place])
+}
