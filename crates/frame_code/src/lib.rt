@@ -28,6 +28,6 @@ pub use laws::{
 };
 pub use moves::{enter, give, pass_on};
 pub use run::advance;
-pub use set_variables::{assign, at_entry, future, lift, set_number};
+pub use set_variables::{assign, at_entry, future, has_sort, lift, set_number};
 pub use size::{class_of, members_class, words_of};
 pub use words::Frame;

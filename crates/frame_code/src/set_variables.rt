@@ -1,4 +1,4 @@
-ghost use Rattle.std.specs.Prelude.{◌≡◌, ◌+◌, ◌<◌, ◌≤◌, ◌^◌, false, length, slice_index};
+ghost use Rattle.std.specs.Prelude.{◌≡◌, ◌+◌, ◌<◌, ◌≤◌, ◌^◌, ◌↔◌, IsTrue, false, length, slice_index};
 ghost use Rattle.task_syntax.specs.declared.program.Sort.TheVariants.{Number as NumberSort, Future as FutureSort};
 ghost use Rattle.task_meaning.specs.Frame.{entry};
 ghost use Rattle.frame_code.specs.Control.{is_aggregate, control_kind};
@@ -8,9 +8,9 @@ ghost use Rattle.frame_code.specs.Setting.{HasSort, bare_call, unit_in, IsSetNum
 
 use crate::lookup::kind_at;
 use crate::places::{future_place, number_place};
-use crate::words::{Control, Frame};
+use crate::words::{AGGREGATE, Control, Frame};
 use arrayvec::ArrayVec;
-use task_syntax::{Checked, Variable};
+use task_syntax::{Checked, Sort, Variable};
 
 /// The frame of a task at the start of its entry state, before its arguments are set.
 pub fn at_entry(checked: &Checked, kind: u16) -> Frame
@@ -42,6 +42,21 @@ fn variables_of<'a>(checked: &'a Checked, words: &[u64]) -> &'a [Variable]
     kind_at(checked.program(), Control::unpack(words[0]).kind)
         .variables
         .as_slice()
+}
+
+/// Whether a frame has a variable of this sort at a position.
+pub fn has_sort(checked: &Checked, frame: &Frame, sort: Sort, x: u16) -> bool
+    requires { IsFrame checked.now frame.now.items }
+    ensures { IsTrue result ↔ HasSort checked.now sort x frame.now.items }
+{
+    let words = frame.as_slice();
+    if Control::unpack(words[0]).kind == AGGREGATE {
+        return false;
+    }
+    match variables_of(checked, words).get(x as usize) {
+        Some(variable) => variable.sort == sort,
+        None => false,
+    }
 }
 
 /// Sets a number variable of a frame.
