@@ -35,3 +35,6 @@ pub mod JournalKept
 pub mod AllFinish
 pub mod RunStands
 pub mod JournalGrows
+pub mod FutureFacts
+pub mod LineFacts
+pub mod SeatFacts
