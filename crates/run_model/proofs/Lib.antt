@@ -38,3 +38,4 @@ pub mod JournalGrows
 pub mod FutureFacts
 pub mod LineFacts
 pub mod SeatFacts
+pub mod SeatEntries
