@@ -39,3 +39,4 @@ pub mod FutureFacts
 pub mod LineFacts
 pub mod SeatFacts
 pub mod SeatEntries
+pub mod TasksStand
