@@ -40,3 +40,4 @@ pub mod LineFacts
 pub mod SeatFacts
 pub mod SeatEntries
 pub mod TasksStand
+pub mod FramesParts
