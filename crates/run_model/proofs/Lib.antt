@@ -41,3 +41,4 @@ pub mod SeatFacts
 pub mod SeatEntries
 pub mod TasksStand
 pub mod FramesParts
+pub mod FramesKept

@@ -328,3 +328,10 @@ module _ (p : Program) (c : Columns) (units : ℕ) where
   roots_move r _ now (Move.refused t n body tag notes runs refuses) = record { few = now.few; skipped = now.skipped; tasks = now.tasks }
   roots_move r _ now (Move.started n left idle next uncut) = record { few = now.few; skipped = now.skipped; tasks = now.tasks }
   roots_move r _ now (Move.cut_at_start n left row u tag idle next there after cut) = record { few = now.few; skipped = now.skipped; tasks = now.tasks }
+
+-- where a root names none without a task, each root that it passes has one
+pub passed_has : (p : Program) (r : Run) (root : RootLine) → IsWellFormed p → slice_get p.roots (length r.roots) ≡ Some root → first_taskless r.roots (roots_named root) ≡ None
+    → (at k : ℕ) → slice_get root.arguments at ≡ Some (root_argument.Root k) → HasOwn (own_tasks r) k
+passed_has p r root formed there free at k e =
+    let (i, named) = append_left (flat_map root_passed root.arguments) (root_waited root.behind) k (argument_named root.arguments at k e) in
+    all_have r.roots (roots_named root) (root_below p (length r.roots) root formed there) free i k named

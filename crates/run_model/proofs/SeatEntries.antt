@@ -47,7 +47,7 @@ has_at x (y ∷ ys) h = by (nat_eq x y) refl (has_at x ys) h
     by false e later h = let (i, f) = later h in (suc i, f)
 
 -- a member of a list, at a position that is in range
-item_at : {A : Type 0} (xs : List A) (at : ℕ) → at < length xs → (x : A) × (slice_get xs at ≡ Some x)
+pub item_at : {A : Type 0} (xs : List A) (at : ℕ) → at < length xs → (x : A) × (slice_get xs at ≡ Some x)
 item_at xs at h = elim (slice_get_cases xs at).1 [ inl s ↦ (s.0, s.2) | inr s ↦ absurd (omega (arith, s.0, h)) ]
 
 -- a held future is kept

@@ -133,6 +133,9 @@ module _ (p : Program) (formed : IsWellFormed p) (valid : IsValid p) (c : Column
     pub seat_steps : (next : FrameOf ℕ) → act_of c line.instr q ≡ Steps next → IsSeated p s after started next
     seat_steps next e = seat_onward next (steps_onward (Given s after started) (Among s) p c seat.kind seat.state line.instr seat.facts q next seat_formed seat_sound seat.futures seat.way seat_meets e)
 
+    pub steps_kind : (next : FrameOf ℕ) → act_of c line.instr q ≡ Steps next → next.kind ≡ q.kind
+    steps_kind next e = (steps_onward (Given s after started) (Among s) p c seat.kind seat.state line.instr seat.facts q next seat_formed seat_sound seat.futures seat.way seat_meets e).kind
+
     -- by the number that a task gave
     pub seat_reads : (to x n : ℕ) → act_of c line.instr q ≡ Reads to x → IsSeated p s after started (set_number q to n)
     seat_reads to x n e =
@@ -178,6 +181,10 @@ module _ (p : Program) (formed : IsWellFormed p) (valid : IsValid p) (c : Column
 pub seat_goes : (p : Program) → IsWellFormed p → IsValid p → (c : Columns) (r s : Run) (after : Option ℕ) (started : Bool) (q next : FrameOf ℕ) → IsSeated p s after started q → Goes p c r q next → IsSeated p s after started next
 seat_goes p formed valid c r s after started q _ seat (Goes.steps next (line, there, e)) = seat_steps p formed valid c s after started q seat line there next e
 seat_goes p formed valid c r s after started q _ seat (Goes.reads to x u n (line, there, e) names gave) = seat_reads p formed valid c s after started q seat line there to x n e
+
+pub goes_kind : (p : Program) → IsWellFormed p → IsValid p → (c : Columns) (r s : Run) (after : Option ℕ) (started : Bool) (q next : FrameOf ℕ) → IsSeated p s after started q → Goes p c r q next → next.kind ≡ q.kind
+goes_kind p formed valid c r s after started q _ seat (Goes.steps next (line, there, e)) = steps_kind p formed valid c s after started q seat line there next e
+goes_kind p formed valid c r s after started q _ seat (Goes.reads to x u n acts names gave) = refl
 
 -- and so does one that asked for a new task, once its variable names it
 pub seat_asks : (p : Program) → IsWellFormed p → IsValid p → (c : Columns) (s : Run) (after : Option ℕ) (started : Bool) (q : FrameOf ℕ) (request : Request) (to v : ℕ) (retry : Bool) → IsSeated p s after started q
