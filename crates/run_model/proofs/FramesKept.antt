@@ -1,9 +1,9 @@
 -- Each move of a run of a valid program keeps what stands of frames and aggregates.
-use Rattle.std.proofs.Common.{◌≡◌, ◌≢◌, ℕ, zero, suc, ◌+◌, ◌<◌, ◌≤◌, Bool, true, false, Option, Some, None, List, [], ◌∷◌, ◌++◌, length, map, slice_get, refl, sym, ◌∙◌, ap, subst, ◌⊎◌, inl, inr, ⊎_elim, arith}
+use Rattle.std.proofs.Common.{◌≡◌, ℕ, suc, ◌<◌, ◌≤◌, Bool, true, false, Option, Some, None, List, [], ◌∷◌, ◌++◌, length, map, slice_get, refl, sym, ◌∙◌, ap, subst, inl, inr, ⊎_elim, arith}
 use Rattle.std.specs.Prelude.{IsSome}
 use Rattle.std.specs.Option.{is_some}
 use Rattle.std.proofs.lemmas.Bool.{cases_eq, false≢true}
-use Rattle.std.proofs.lemmas.Option.{none-some, same_Some, slice_get_within, slice_get_cases}
+use Rattle.std.proofs.lemmas.Option.{none-some, slice_get_within, slice_get_cases}
 use Rattle.task_syntax.specs.Places.{Each}
 use Rattle.task_syntax.specs.Form.{IsWellFormed, IsFormedInstr}
 use Rattle.task_syntax.specs.Valid.{Held, IsValid, IsSoundInstr}
@@ -11,11 +11,10 @@ use Rattle.task_syntax.specs.declared.value.Value.{Value}
 use Rattle.task_syntax.specs.declared.value.Priority.{Priority}
 use Rattle.task_syntax.specs.declared.instr.Line.{Line}
 use Rattle.task_syntax.specs.declared.program.Root.{Root as RootLine}
-use Rattle.task_syntax.specs.declared.program.RootArgument.TheVariants as root_argument
 use Rattle.task_syntax.specs.declared.program.Program.{Program}
 use Rattle.task_syntax.specs.declared.columns.Columns.{Columns}
 use Rattle.task_meaning.specs.Meant.{future_at}
-use Rattle.task_meaning.specs.Frame.{FrameOf, CallOf, code_at, set_future}
+use Rattle.task_meaning.specs.Frame.{FrameOf, code_at, set_future}
 use Rattle.task_meaning.specs.FrameLaws.{task_waited}
 use Rattle.task_meaning.specs.Roots.{root_call}
 use Rattle.task_meaning.specs.RootLaws.{root_waits}
@@ -24,16 +23,16 @@ use Rattle.task_meaning.specs.Worths.{Accepted, OfCall, OfAll, Respawn}
 use Rattle.pool_core.specs.Blocks.{BlockState}
 use Rattle.frame_code.specs.Words.{OfKind, OfMembers}
 use Rattle.record_core.specs.Numbers.{by_number, flat, found}
-use Rattle.record_core.specs.Journal.{next_number, start_of}
+use Rattle.record_core.specs.Journal.{next_number}
 use Rattle.record_core.specs.EndSeen.{RunPlan}
 use Rattle.record_core.specs.declared.rows.ActivationRow.{ActivationRow}
 use Rattle.record_core.specs.declared.rows.Cause.TheVariants as cause
 use Rattle.record_core.specs.declared.rows.CutTag.{CutTag}
-use Rattle.run_model.specs.State.{Body, Outcome, Gave, WasCut, Named, Refused, Skipped, Run}
-use Rattle.run_model.specs.Step.{Request, task_list, tasks_named, own_tasks, root_request, at_first, accepts, with_body, with_root, completes, arrives, cause_of_cut, call_request, asked_priority}
+use Rattle.run_model.specs.State.{Body, Gave, WasCut, Named, Refused, Skipped, Run}
+use Rattle.run_model.specs.Step.{Request, task_list, tasks_named, own_tasks, root_request, at_first, accepts, with_body, with_root, cause_of_cut, call_request, asked_priority}
 use Rattle.run_model.specs.Move.{Notes, with_notes, RunsAt, Asks, Answers, Renews, Move, RootMove, begins}
 use Rattle.run_model.proofs.ByNumber.{snoc_new, snoc_old, found_old, has_some, none_of_empty}
-use Rattle.run_model.proofs.NumbersInvariant.{NumbersStand, IsLive}
+use Rattle.run_model.proofs.NumbersInvariant.{NumbersStand}
 use Rattle.run_model.proofs.LiveFacts.{outcome_snoc, same_row}
 use Rattle.run_model.proofs.NumbersParts.{held_starts, started_runs}
 use Rattle.run_model.proofs.RunsFacts.{running_number}
@@ -41,8 +40,8 @@ use Rattle.run_model.proofs.RootsKept.{passed_has}
 use Rattle.run_model.proofs.FramesInvariant.{IsGiven, IsSeated, has_started, FramesStand}
 use Rattle.run_model.proofs.LineFacts.{shape_of}
 use Rattle.run_model.proofs.SeatFacts.{Grows, given_grows, seat_grows, seat_formed, seat_sound, seat_goes, goes_kind, seat_asks}
-use Rattle.run_model.proofs.SeatEntries.{item_at, spawn_seated, again_seated, root_seated}
-use Rattle.run_model.proofs.TasksStand.{IsFramed, IsGathering, BodyStands, IsComplete, RunsBehind, TasksStand, body_grows, kinds_differ, same_members, tasks_of, frames_of}
+use Rattle.run_model.proofs.SeatEntries.{spawn_seated, again_seated, root_seated}
+use Rattle.run_model.proofs.TasksStand.{IsFramed, IsGathering, BodyStands, TasksStand, kinds_differ, same_members, tasks_of, frames_of}
 use Rattle.run_model.proofs.FramesParts.{renewed_run, stand_noted, stand_root, stand_arrives, stand_body, stand_accepts, stand_renewed, stand_ends, begins_others, stand_begins}
 use Rattle.run_model.proofs.Reached.{IsNextRoot}
 

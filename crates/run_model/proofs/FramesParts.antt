@@ -1,19 +1,18 @@
 -- What stands of tasks under way after each part of a move.
-use Rattle.std.proofs.Common.{◌≡◌, ◌≢◌, ℕ, suc, ◌+◌, ◌<◌, ◌≤◌, Bool, true, false, cond, Option, Some, None, List, [], ◌∷◌, ◌++◌, length, slice_get, refl, sym, ◌∙◌, ap, subst, ◌⊎◌, inl, inr, ⊎_elim, arith}
-use Rattle.std.specs.Prelude.{IsSome}
+use Rattle.std.proofs.Common.{◌≡◌, ◌≢◌, ℕ, ◌+◌, ◌≤◌, true, false, Option, Some, None, List, [], ◌∷◌, ◌++◌, length, slice_get, refl, sym, ◌∙◌, ap, subst, inl, inr, ⊎_elim, arith}
+use Rattle.std.specs.Prelude.{Bool, IsSome}
 use Rattle.std.specs.Option.{is_some}
 use Rattle.std.proofs.lemmas.Bool.{cases_eq, false≢true}
-use Rattle.std.proofs.lemmas.Option.{none-some, same_Some, slice_get_within, slice_get_past}
+use Rattle.std.proofs.lemmas.Option.{none-some, same_Some}
 use Rattle.task_syntax.specs.Facts.{has}
 use Rattle.task_syntax.specs.declared.value.Value.{Value}
 use Rattle.task_syntax.specs.declared.value.Priority.{Priority}
 use Rattle.task_syntax.specs.declared.program.Program.{Program}
-use Rattle.task_meaning.specs.Frame.{FrameOf}
 use Rattle.task_meaning.specs.Worths.{Accepted, OfAll, Respawn}
 use Rattle.pool_core.specs.Blocks.{BlockState}
 use Rattle.frame_code.specs.Words.{OfKind, OfMembers}
 use Rattle.record_core.specs.Numbers.{by_number, put_number, flat, found, HasTask}
-use Rattle.record_core.specs.Journal.{next_number, started_rows, finish_of}
+use Rattle.record_core.specs.Journal.{next_number, started_rows}
 use Rattle.record_core.specs.declared.rows.ActivationRow.{ActivationRow}
 use Rattle.record_core.specs.declared.rows.Cause.{Cause}
 use Rattle.record_core.specs.declared.rows.CutTag.{CutTag}
@@ -21,51 +20,50 @@ use Rattle.run_model.specs.State.{Body, Outcome, Gave, WasCut, RootWord, Run, Qu
 use Rattle.run_model.specs.Step.{Request, arrives, waits_or_queues, completes, accepts, draws, with_body, with_root}
 use Rattle.run_model.specs.Move.{Notes, with_notes, RunsAt, begins}
 use Rattle.run_model.proofs.ByNumber.{number_within, snoc_old, snoc_other, snoc_cases, found_new, found_other, found_put, found_put_other, found_within, found_old, has_some}
-use Rattle.run_model.proofs.NumbersInvariant.{NumbersStand, IsLive, IsLiveAt}
-use Rattle.run_model.proofs.LiveFacts.{read_snoc, outcome_snoc, task_within, same_row, was_row, one_started, was_live, no_wait}
+use Rattle.run_model.proofs.NumbersInvariant.{NumbersStand, IsLive}
+use Rattle.run_model.proofs.LiveFacts.{WasRow, read_snoc, outcome_snoc, task_within, same_row, was_row, one_started, was_live, no_wait}
 use Rattle.run_model.proofs.QueueFacts.{times_next, times_self}
 use Rattle.run_model.proofs.NumbersParts.{next_row}
-use Rattle.run_model.proofs.RunsFacts.{running_open, running_within, running_number}
-use Rattle.run_model.proofs.FramesInvariant.{IsGiven, WillGive, IsSeated, has_started}
+use Rattle.run_model.proofs.RunsFacts.{running_open, running_within}
+use Rattle.run_model.proofs.FramesInvariant.{IsGiven, WillGive, has_started}
 use Rattle.run_model.proofs.SeatFacts.{Grows, given_grows}
 use Rattle.run_model.proofs.SeatEntries.{has_at}
-use Rattle.run_model.proofs.TasksStand.{IsFramed, IsGathering, BodyStands, IsComplete, RunsBehind, TasksStand, body_grows}
+use Rattle.run_model.proofs.TasksStand.{BodyStands, IsComplete, RunsBehind, TasksStand, body_grows}
+
+-- whether there is a start
+abbrev begun : Option ℕ → Bool
+begun o = elim o [ None ↦ false | Some s ↦ true ]
+
+-- a later run in which no more is live, and no other bodies are found
+stand_same : (p : Program) (r s : Run) → TasksStand p r → Grows r s → ((t n : ℕ) (row : ActivationRow) → IsLive s t n row → IsLive r t n row)
+    → ((t : ℕ) (body : Body) → found s.bodies t ≡ Some body → found r.bodies t ≡ Some body) → IsComplete s → RunsBehind s → TasksStand p s
+stand_same p r s now grows was_live had complete runs_behind = record {
+  tasks = λ t n row body live has. body_grows p r s t row.after (has_started row) body grows (now.tasks t n row body (was_live t n row live) (had t body has));
+  complete = complete;
+  runs_behind = runs_behind;
+}
 
 -- what is noted, and which root has which task, is not read here
 pub stand_noted : (p : Program) (r : Run) (notes : Notes) → TasksStand p r → TasksStand p (with_notes r notes)
-stand_noted p r notes now = record {
-  tasks = λ t n row body live has. body_grows p r (with_notes r notes) t row.after (has_started row) body (record { gave = λ u v e. e; calls = λ n call e. e }) (now.tasks t n row body live has);
-  complete = now.complete;
-  runs_behind = now.runs_behind;
-}
+stand_noted p r notes now =
+    stand_same p r (with_notes r notes) now (record { gave = λ u v e. e; calls = λ n call e. e }) (λ t n row live. live) (λ t body has. has) now.complete now.runs_behind
 
+-- the same of a root's word
 pub stand_root : (p : Program) (r : Run) (word : RootWord) → TasksStand p r → TasksStand p (with_root r word)
-stand_root p r word now = record {
-  tasks = λ t n row body live has. body_grows p r (with_root r word) t row.after (has_started row) body (record { gave = λ u v e. e; calls = λ n call e. e }) (now.tasks t n row body live has);
-  complete = now.complete;
-  runs_behind = now.runs_behind;
-}
+stand_root p r word now =
+    stand_same p r (with_root r word) now (record { gave = λ u v e. e; calls = λ n call e. e }) (λ t n row live. live) (λ t body has. has) now.complete now.runs_behind
 
 -- nor where a number waits
 pub stand_arrives : (p : Program) (r : Run) (n : ℕ) (after : Option ℕ) → TasksStand p r → TasksStand p (arrives r n after)
-stand_arrives p r n None now = record {
-  tasks = λ t k row body live has. body_grows p r (arrives r n None) t row.after (has_started row) body (record { gave = λ u v e. e; calls = λ n call e. e }) (now.tasks t k row body live has);
-  complete = now.complete;
-  runs_behind = now.runs_behind;
-}
+stand_arrives p r n None now =
+    stand_same p r (arrives r n None) now (record { gave = λ u v e. e; calls = λ n call e. e }) (λ t n row live. live) (λ t body has. has) now.complete now.runs_behind
 stand_arrives p r n (Some u) now = by (found r.outcomes u)
   where
     by : (o : Option Outcome) → TasksStand p (waits_or_queues o r n u)
-    by None = record {
-      tasks = λ t k row body live has. body_grows p r (waits_or_queues None r n u) t row.after (has_started row) body (record { gave = λ u v e. e; calls = λ n call e. e }) (now.tasks t k row body live has);
-      complete = now.complete;
-      runs_behind = now.runs_behind;
-    }
-    by (Some outcome) = record {
-      tasks = λ t k row body live has. body_grows p r (waits_or_queues (Some outcome) r n u) t row.after (has_started row) body (record { gave = λ u v e. e; calls = λ n call e. e }) (now.tasks t k row body live has);
-      complete = now.complete;
-      runs_behind = now.runs_behind;
-    }
+    by None =
+        stand_same p r (waits_or_queues None r n u) now (record { gave = λ u v e. e; calls = λ n call e. e }) (λ t n row live. live) (λ t body has. has) now.complete now.runs_behind
+    by (Some outcome) =
+        stand_same p r (waits_or_queues (Some outcome) r n u) now (record { gave = λ u v e. e; calls = λ n call e. e }) (λ t n row live. live) (λ t body has. has) now.complete now.runs_behind
 
 -- a task stands at another body
 pub stand_body : (p : Program) (r : Run) (t : ℕ) (old to : Body) → found r.bodies t ≡ Some old → TasksStand p r
@@ -98,6 +96,7 @@ abbrev pub renewed_run : Run → ℕ → Body → Option ℕ → Priority → Ru
 renewed_run r t to after priority = with_body (record (draws r (Some t) after priority (Respawn t after) None None) { running = None }) t to
 
 module _ (p : Program) (r : Run) (held : NumbersStand r) (now : TasksStand p r) where
+  -- an aggregate that gave a value was drawn before
   complete_drawn : (call : Accepted) (t at u : ℕ) (v : Value) (members : List ℕ) → by_number (r.calls ++ call ∷ []) t ≡ Some (OfAll members) → found (r.outcomes ++ None ∷ []) t ≡ Some (Gave v) → slice_get members at ≡ Some u → IsGiven r u
   complete_drawn call t at u v members called gave e =
       let was : found r.outcomes t ≡ Some (Gave v) = sym (outcome_snoc r.outcomes t) ∙ gave in
@@ -217,6 +216,7 @@ module _ (p : Program) (r : Run) (n : ℕ) (left : Queues) (held : NumbersStand 
   first : (row : ActivationRow) × (by_number r.journal.rows n ≡ Some row) × (row.start ≡ None)
   first = next_row r [] n left held next
 
+  -- a start changes no call and no outcome
   grows : Grows r s
   grows = record { gave = λ u v e. e; calls = λ n call e. e }
 
@@ -226,17 +226,24 @@ module _ (p : Program) (r : Run) (n : ℕ) (left : Queues) (held : NumbersStand 
       let ready = held.numbers.free n u row there (let moved = times_next r.ready left n n next in let once = times_self n in omega (arith, moved, once)) after in
       (held.live.has_outcome u).1 ready
 
+  -- each row was there
+  row_was : (k : ℕ) (row : ActivationRow) → by_number (begins r n left).journal.rows k ≡ Some row
+      → WasRow r.journal.rows (begins r n left).journal.rows n (r.journal.stamps + 1) first.0 first.1 (one_started r.journal.rows n (r.journal.stamps + 1) first.0 first.1) k row
+  row_was k row there =
+      was_row r.journal.rows (begins r n left).journal.rows n (r.journal.stamps + 1) first.0 first.1 (one_started r.journal.rows n (r.journal.stamps + 1) first.0 first.1) k row there
+
   -- what stands of the tasks but its own stays
   pub begins_others : (t k : ℕ) (row : ActivationRow) (body : Body) → k ≢ n → IsLive s t k row → found r.bodies t ≡ Some body → BodyStands p s t row.after (has_started row) body
   begins_others t k row body differ live has =
-      let w = was_row r.journal.rows (started_rows r.journal.rows n (r.journal.stamps + 1) (by_number r.journal.rows n)) n (r.journal.stamps + 1) first.0 first.1 (one_started r.journal.rows n (r.journal.stamps + 1) first.0 first.1) k row live.there in
+      let w = row_was k row live.there in
       let start : w.was.start ≡ None = ⊎_elim (λ e. sym (w.start.1 differ) ∙ e) (λ e. absurd (differ (sym (same_Some n k e)))) live.live in
       let was = body_grows p r s t w.was.after (has_started w.was) body grows (now.tasks t k w.was body (record { there = w.stood; of_task = sym w.task ∙ live.of_task; live = inl start }) has) in
-      let same_start : has_started w.was ≡ has_started row = ap (λ (o : Option ℕ). elim o [ None ↦ false | Some s ↦ true ]) (sym (w.start.1 differ)) in
+      let same_start : has_started w.was ≡ has_started row = ap begun (sym (w.start.1 differ)) in
       subst (λ o. BodyStands p s t o (has_started row) body) (sym w.after) (subst (λ b. BodyStands p s t w.was.after b body) same_start was)
 
   -- where what it is behind gave a value, its own task stands too
   module _ (uncut : (row : ActivationRow) (u : ℕ) (tag : CutTag) → by_number r.journal.rows n ≡ Some row → row.after ≡ Some u → found r.outcomes u ≢ Some (WasCut tag)) where
+    -- what it is behind gave a value
     after_given : (u : ℕ) → first.0.after ≡ Some u → IsGiven r u
     after_given u after = let (o, e) = has_some (found r.outcomes u) (behind_ended first.0 u first.1 after) in by o e
       where
@@ -244,12 +251,14 @@ module _ (p : Program) (r : Run) (n : ℕ) (left : Queues) (held : NumbersStand 
         by (Gave v) e = (v, e)
         by (WasCut tag) e = absurd (uncut first.0 u tag first.1 after e)
 
+    -- so what will have given a value where it starts, gave one
     will_given : (u : ℕ) → WillGive r first.0.after u → IsGiven r u
     will_given u (inl given) = given
     will_given u (inr (inl after)) = after_given u after
     will_given u (inr (inr (a, members, after, call, among))) =
         let (v, gave) = after_given a after in let (i, e) = has_at u members among in now.complete a i u v members call gave e
 
+    -- what stands of a body stands once its activation has started
     starts_body : (t : ℕ) (body : Body) → BodyStands p r t first.0.after false body → BodyStands p s t first.0.after true body
     starts_body t (OfKind q) was = record {
       seat = record {
@@ -278,18 +287,17 @@ module _ (p : Program) (r : Run) (n : ℕ) (left : Queues) (held : NumbersStand 
           where
             own : k ≡ n → BodyStands p s t row.after (has_started row) body
             own same =
-                let w = was_row r.journal.rows (started_rows r.journal.rows n (r.journal.stamps + 1) (by_number r.journal.rows n)) n (r.journal.stamps + 1) first.0 first.1 (one_started r.journal.rows n (r.journal.stamps + 1) first.0 first.1) k row live.there in
+                let w = row_was k row live.there in
                 let is_first : w.was ≡ first.0 = same_row r.journal.rows n w.was first.0 (sym (ap (by_number r.journal.rows) same) ∙ w.stood) first.1 in
                 let of_task : first.0.task ≡ t = sym (ap (λ (x : ActivationRow). x.task) is_first) ∙ sym w.task ∙ live.of_task in
-                let was_waiting : has_started first.0 ≡ false = ap (λ (o : Option ℕ). elim o [ None ↦ false | Some s ↦ true ]) first.2 in
+                let was_waiting : has_started first.0 ≡ false = ap begun first.2 in
                 let was = subst (λ b. BodyStands p r t first.0.after b body) was_waiting (now.tasks t n first.0 body (record { there = first.1; of_task = of_task; live = inl first.2 }) has) in
                 let after : first.0.after ≡ row.after = sym (ap (λ (x : ActivationRow). x.after) is_first) ∙ sym w.after in
-                let has_begun : true ≡ has_started row = sym (ap (λ (o : Option ℕ). elim o [ None ↦ false | Some s ↦ true ]) (w.start.0 same)) in
+                let has_begun : true ≡ has_started row = sym (ap begun (w.start.0 same)) in
                 subst (λ o. BodyStands p s t o (has_started row) body) after (subst (λ b. BodyStands p s t first.0.after b body) has_begun (starts_body t body was))
 
         runs_behind : RunsBehind s
         runs_behind k u row e there after =
-            let started = one_started r.journal.rows n (r.journal.stamps + 1) first.0 first.1 in
-            let w = was_row r.journal.rows (started_rows r.journal.rows n (r.journal.stamps + 1) (by_number r.journal.rows n)) n (r.journal.stamps + 1) first.0 first.1 started k row there in
+            let w = row_was k row there in
             let is_first : w.was ≡ first.0 = same_row r.journal.rows n w.was first.0 (ap (by_number r.journal.rows) (same_Some n k e) ∙ w.stood) first.1 in
             after_given u (sym (ap (λ (x : ActivationRow). x.after) is_first) ∙ sym w.after ∙ after)

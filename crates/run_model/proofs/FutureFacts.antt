@@ -1,18 +1,19 @@
 -- What is known of the futures of a frame stays so over the lines that change them.
-use Rattle.std.proofs.Common.{◌≡◌, ℕ, ◌+◌, ◌<◌, Bool, true, false, cond, nat_eq, Option, Some, None, List, [], ◌∷◌, length, refl, sym, ◌∙◌, ap, subst, ◌⊎◌, inl, inr, arith}
+use Rattle.std.proofs.Common.{◌≡◌, ℕ, ◌<◌, Bool, true, false, cond, nat_eq, Option, Some, None, List, [], ◌∷◌, length, refl, sym, ◌∙◌, ap, subst, ◌⊎◌, inl, inr}
 use Rattle.std.specs.Prelude.{slice_set, IsSome, IsTrue}
 use Rattle.std.specs.Option.{is_some}
 use Rattle.std.proofs.lemmas.Bool.{eqb-true, eqb-false}
-use Rattle.std.proofs.lemmas.Option.{none-some, same_Some}
+use Rattle.std.proofs.lemmas.Option.{same_Some}
 use Rattle.std.proofs.lemmas.List.{get_or-set_same, get_or-set_other}
 use Rattle.task_syntax.specs.Facts.{Facts, has, without, members_of, forget, renewed, given_up}
 use Rattle.task_syntax.proofs.Bools.{either, has-without}
 use Rattle.task_meaning.specs.Meant.{future_at}
 
--- a future is set at a position, and the others stay
+-- a future is set at a position
 at_set : (fs : List (Option ℕ)) (x : ℕ) (o : Option ℕ) → x < length fs → future_at (slice_set fs x o) x ≡ o
 at_set fs x o h = get_or-set_same fs x o None h
 
+-- at another position it stays as it was
 at_other : (fs : List (Option ℕ)) (to x : ℕ) (o : Option ℕ) → nat_eq to x ≡ false → future_at (slice_set fs to o) x ≡ future_at fs x
 at_other fs to x o h = get_or-set_other fs to x o None (λ e. eqb-false to x h (sym e))
 
@@ -20,6 +21,7 @@ at_other fs to x o h = get_or-set_other fs to x o None (λ e. eqb-false to x h (
 in_renewed : (x to : ℕ) (xs : List ℕ) → IsTrue (has x (to ∷ without to xs)) → (x ≡ to) ⊎ ((nat_eq to x ≡ false) × IsTrue (has x xs))
 in_renewed x to xs h = elim (either (nat_eq x to) (has x (without to xs)) h) [ inl s ↦ inl (eqb-true x to s) | inr s ↦ inr (has-without x to xs s) ]
 
+-- numbers that differ, differ the other way round
 eq_swapped : (x y : ℕ) → nat_eq x y ≡ false → nat_eq y x ≡ false
 eq_swapped x y h = by (nat_eq y x) refl
   where
@@ -33,6 +35,7 @@ record Stays (to g x : ℕ) (ms : List (ℕ × List ℕ)) : Type 0 where
   member : nat_eq to x ≡ false
   listed : IsTrue (has x (members_of g ms))
 
+-- what stands in a member list where `to` is forgotten stays there
 in_forget : (to g x : ℕ) (ms : List (ℕ × List ℕ)) → IsTrue (has x (members_of g (forget to ms))) → Stays to g x ms
 in_forget to g x [] h = absurd (cc h)
 in_forget to g x ((y, ys) ∷ more) h = by (nat_eq to y) refl h (in_forget to g x more)

@@ -1,12 +1,12 @@
 -- What a line of a valid program does to the place and the futures of a frame.
-use Rattle.std.proofs.Common.{◌≡◌, ℕ, ◌+◌, ◌<◌, Bool, true, false, cond, nat_eq, Option, Some, None, List, [], ◌∷◌, length, slice_get, refl, sym, ◌∙◌, ap, subst, ◌⊎◌, inl, inr, arith}
-use Rattle.std.specs.Prelude.{slice_set, IsSome, IsTrue}
+use Rattle.std.proofs.Common.{◌≡◌, ℕ, ◌+◌, ◌<◌, Bool, true, false, cond, nat_eq, Option, Some, None, List, length, slice_get, refl, sym, ◌∙◌, ap, subst, ◌⊎◌, inl, inr, arith}
+use Rattle.std.specs.Prelude.{slice_set}
 use Rattle.std.specs.Option.{option_map}
 use Rattle.std.proofs.lemmas.Bool.{eqb-true}
 use Rattle.std.proofs.lemmas.Option.{slice_get_within}
 use Rattle.std.proofs.lemmas.List.{length-set, set-get_or}
 use Rattle.task_syntax.specs.Facts.{Facts, has, members_of, renewed, after}
-use Rattle.task_syntax.specs.Places.{instr_at, sort_at, IsFutureAt}
+use Rattle.task_syntax.specs.Places.{IsFutureAt}
 use Rattle.task_syntax.specs.Form.{IsFormedInstr, Leaves}
 use Rattle.task_syntax.specs.Valid.{Way, JumpsTo, IsSoundInstr}
 use Rattle.task_syntax.specs.declared.value.Value.{Value}
@@ -22,9 +22,9 @@ use Rattle.task_syntax.specs.declared.program.Program.{Program}
 use Rattle.task_syntax.specs.declared.columns.Columns.{Columns}
 use Rattle.task_syntax.specs.Columns.{rows_of}
 use Rattle.task_meaning.specs.Meant.{future_at}
-use Rattle.task_meaning.specs.Frame.{FrameOf, CallOf, jump, go_on, set_number, set_future, operand, spawned}
+use Rattle.task_meaning.specs.Frame.{FrameOf, jump, go_on, set_number, set_future, operand, spawned}
 use Rattle.task_meaning.specs.Arithmetic.{computed, compares, cell_at}
-use Rattle.task_meaning.specs.Acts.{Act, Steps, Calls, Gathers, Reads, Respawns, Finishes, act_of, steps_with}
+use Rattle.task_meaning.specs.Acts.{Act, Steps, Calls, Gathers, Reads, Respawns, act_of, steps_with}
 use Rattle.run_model.proofs.ByNumber.{has_some}
 use Rattle.run_model.proofs.FutureFacts.{Meets, meets_renewed, meets_given_up}
 
@@ -45,10 +45,12 @@ Shape (Reads to x) instr q = instr ≡ Get to x
 Shape (Respawns target waits) instr q = (priority : Priority) × (instr ≡ Again target waits priority)
 Shape _ instr q = Unit {0}
 
+-- a value alone needs no other task
 plain_shape : (v : Value) (frame : ℕ → FrameOf ℕ) (instr : Instr) (q : FrameOf ℕ) → Shape (steps_with v frame) instr q
 plain_shape (Number n) frame instr q = tt
 plain_shape (Trapped t) frame instr q = tt
 
+-- each act comes of its instruction
 act_shape : (c : Columns) (instr : Instr) (q : FrameOf ℕ) → Shape (act_of c instr q) instr q
 act_shape c (Math op to left right) q = plain_shape (computed op (operand q.numbers left) (operand q.numbers right)) (set_number q to) (Math op to left right) q
 act_shape c (Cell to column row) q = plain_shape (cell_at c column (operand q.numbers row)) (set_number q to) (Cell to column row) q
@@ -58,6 +60,7 @@ act_shape c (Get to x) q = refl
 act_shape c (Again target waits priority) q = (priority, refl)
 act_shape c _ q = tt
 
+-- so an act that is known tells the instruction
 pub shape_of : (c : Columns) (instr : Instr) (q : FrameOf ℕ) (a : Act ℕ) → act_of c instr q ≡ a → Shape a instr q
 shape_of c instr q a e = subst (λ a. Shape a instr q) e (act_shape c instr q)
 
@@ -75,6 +78,7 @@ module _ (Given : ℕ → Type 0) (Among : ℕ → ℕ → Type 0) where
   number_onward instr f q next to n stays now same =
       subst (λ k. Onward instr f q k) same (record { kind = refl; state = refl; numbers = length-set q.numbers to n; futures = refl; goes = inl (refl, stays, now) })
 
+  -- a value that is a number is set
   value_onward : (instr : Instr) (f : Facts) (q next : FrameOf ℕ) (to : ℕ) (v : Value) → ¬ Leaves instr → Meets Given Among (after instr f) q.futures → steps_with v (set_number q to) ≡ Steps next → Onward instr f q next
   value_onward instr f q next to (Number n) stays now e = let same : set_number q to n ≡ next = cc in number_onward instr f q next to n stays now same
   value_onward instr f q next to (Trapped t) stays now e = absurd (cc e)
@@ -84,9 +88,11 @@ module _ (Given : ℕ → Type 0) (Among : ℕ → ℕ → Type 0) where
   future_onward instr f q next to o stays now same =
       subst (λ k. Onward instr f q k) same (record { kind = refl; state = refl; numbers = refl; futures = length-set q.futures to o; goes = inl (refl, stays, now) })
 
+  -- nothing is set
   line_onward : (instr : Instr) (f : Facts) (q next : FrameOf ℕ) → ¬ Leaves instr → Meets Given Among (after instr f) q.futures → go_on q ≡ next → Onward instr f q next
   line_onward instr f q next stays now same = subst (λ k. Onward instr f q k) same (record { kind = refl; state = refl; numbers = refl; futures = refl; goes = inl (refl, stays, now) })
 
+  -- the frame jumps
   jump_onward : (instr : Instr) (f : Facts) (q next : FrameOf ℕ) (target : ℕ) → JumpsTo instr target → Meets Given Among f q.futures → jump q target ≡ next → Onward instr f q next
   jump_onward instr f q next target jumps now same = subst (λ k. Onward instr f q k) same (record { kind = refl; state = refl; numbers = refl; futures = refl; goes = inr (jumps, now) })
 

@@ -1,14 +1,12 @@
 -- The frame at the start of a task, and the one at the start of a further state, is seated.
-use Rattle.std.proofs.Common.{◌≡◌, ℕ, zero, suc, ◌+◌, ◌<◌, ◌≤◌, Bool, true, false, ◌||◌, cond, nat_eq, Option, Some, None, List, [], ◌∷◌, ◌++◌, length, map, slice_get, refl, sym, ◌∙◌, ap, subst, ◌⊎◌, inl, inr, arith}
-use Rattle.std.specs.Prelude.{IsSome, IsTrue, IfSome}
+use Rattle.std.proofs.Common.{◌≡◌, ℕ, zero, suc, ◌+◌, ◌<◌, ◌≤◌, Bool, true, false, ◌||◌, cond, nat_eq, Option, Some, None, List, [], ◌∷◌, ◌++◌, length, map, slice_get, refl, sym, ◌∙◌, ap, subst, inl, inr, arith}
+use Rattle.std.specs.Prelude.{◌-◌, replicate, IsSome, IsTrue, IfSome}
 use Rattle.std.specs.Option.{option_map, is_some}
 use Rattle.std.proofs.lemmas.Bool.{eqb-true}
 use Rattle.std.proofs.lemmas.Option.{none-some, same_Some, slice_get_cases}
 use Rattle.task_syntax.specs.Facts.{has, at_start}
-use Rattle.task_syntax.specs.Places.{Each, IsFutureAt}
 use Rattle.task_syntax.specs.Form.{IsWellFormed, IsFormedInstr, IsFormedKind}
 use Rattle.task_syntax.specs.Valid.{Way, starts, Held, WillSettle, Agrees, EachSettledArgument, IsBehind, SpawnsSoundly, RespawnsSoundly, IsSoundInstr, IsSoundKind, IsSoundRoot, IsValid, sort_of, sort_of_root}
-use Rattle.task_syntax.proofs.Bools.{has-first, has-rest}
 use Rattle.task_syntax.specs.declared.program.Sort.{Sort}
 use Rattle.task_syntax.specs.declared.program.Sort.TheVariants as sort
 use Rattle.task_syntax.specs.declared.program.Variable.{Variable}
@@ -21,7 +19,6 @@ use Rattle.task_syntax.specs.declared.program.Program.{Program}
 use Rattle.task_syntax.specs.declared.columns.Columns.{Columns}
 use Rattle.task_syntax.specs.declared.instr.Argument.{Argument}
 use Rattle.task_syntax.specs.declared.instr.Argument.TheVariants as argument
-use Rattle.task_syntax.specs.declared.instr.Instr.TheVariants.{Spawn, Again}
 use Rattle.task_syntax.specs.declared.instr.Line.{Line}
 use Rattle.task_meaning.specs.Meant.{future_at}
 use Rattle.task_meaning.specs.Frame.{FrameOf, CallOf, code_at, holds_at, variables_of, padded, kept, kept_from, entry, enter, number_passed, future_passed}
@@ -33,11 +30,11 @@ use Rattle.task_meaning.proofs.Parts.{holds_at-is, variables_of-is, entry-number
 use Rattle.run_model.specs.State.{Run}
 use Rattle.run_model.proofs.ByNumber.{has_some}
 use Rattle.run_model.proofs.NamesFacts.{entry_named, enter_named}
-use Rattle.run_model.proofs.FramesInvariant.{IsGiven, WillGive, IsSeated}
+use Rattle.run_model.proofs.FramesInvariant.{WillGive, IsSeated}
 use Rattle.run_model.proofs.LineFacts.{shape_of}
 use Rattle.run_model.proofs.SeatFacts.{seat_formed, seat_sound}
 
--- what is in a list stands at a position, and the other way round
+-- what is in a list stands at a position
 pub has_at : (x : ℕ) (xs : List ℕ) → IsTrue (has x xs) → (i : ℕ) × (slice_get xs i ≡ Some x)
 has_at x [] h = absurd (cc h)
 has_at x (y ∷ ys) h = by (nat_eq x y) refl (has_at x ys) h
@@ -56,13 +53,23 @@ kept_at from held [] x h = refl
 kept_at from held (f ∷ fs) zero h = let t : has from held ≡ true = ap (λ n. has n held) (omega arith) ∙ h in ap (λ b. cond b f None) t
 kept_at from held (f ∷ fs) (suc x) h = kept_at (from + 1) held fs x (ap (λ n. has n held) (omega arith) ∙ h)
 
+-- the same from the first position on
 kept_stays : (held : List ℕ) (fs : List (Option ℕ)) (x : ℕ) → IsTrue (has x held) → future_at (kept held fs) x ≡ future_at fs x
 kept_stays held fs x h = kept_at 0 held fs x (let e : 0 + x ≡ x = omega arith in ap (λ n. has n held) e ∙ h)
 
+-- a future stays where a list is made longer
 padded_stays : (fs more : List (Option ℕ)) (x u : ℕ) → future_at fs x ≡ Some u → future_at (fs ++ more) x ≡ Some u
 padded_stays [] more x u e = absurd (none-some u e)
 padded_stays (f ∷ fs) more zero u e = e
 padded_stays (f ∷ fs) more (suc x) u e = padded_stays fs more x u e
+
+-- what is passed and held, the first frame of a call has
+entry_holds : (p : Program) (call : CallOf ℕ) (x : ℕ) → IsTrue (has x (holds_at p call.kind 0)) → IsSome (future_at call.futures x) → IsSome (future_at (entry p call).futures x)
+entry_holds p call x held passed =
+    let (u, names) = has_some (future_at call.futures x) passed in
+    let more : List (Option ℕ) = replicate (variables_of p call.kind - length call.futures) None in
+    let stays : future_at (padded (variables_of p call.kind) None call.futures) x ≡ Some u = padded_stays call.futures more x u names in
+    ap is_some (kept_stays (holds_at p call.kind 0) (padded (variables_of p call.kind) None call.futures) x held) ∙ ap is_some stays
 
 -- what is passed for an argument
 mapped_at : {A : Type 0} (f : A → Option ℕ) (xs : List A) (x : ℕ) (a : A) → slice_get xs x ≡ Some a → future_at (map f xs) x ≡ f a
@@ -70,11 +77,13 @@ mapped_at f [] x a e = absurd (none-some a e)
 mapped_at f (y ∷ ys) zero a e = ap f (same_Some y a e)
 mapped_at f (y ∷ ys) (suc x) a e = mapped_at f ys x a e
 
+-- what is passed at a position comes from the argument there
 mapped_is : {A : Type 0} (f : A → Option ℕ) (xs : List A) (x u : ℕ) → future_at (map f xs) x ≡ Some u → (a : A) × (slice_get xs x ≡ Some a) × (f a ≡ Some u)
 mapped_is f [] x u e = absurd (none-some u e)
 mapped_is f (y ∷ ys) zero u e = (y, refl, e)
 mapped_is f (y ∷ ys) (suc x) u e = mapped_is f ys x u e
 
+-- as much is passed as there are arguments
 length_mapped : {A B : Type 0} (f : A → B) (xs : List A) → length (map f xs) ≡ length xs
 length_mapped f [] = refl
 length_mapped f (x ∷ xs) = ap suc (length_mapped f xs)
@@ -132,10 +141,9 @@ module _ (p : Program) (formed : IsWellFormed p) (s : Run) (after : Option ℕ) 
           let (a, at_a) = item_at arguments x (omega (arith, below, agrees.0)) in
           let (v, at_v) = item_at kind.variables x (omega (arith, below, fits)) in
           let is_future : Some v.sort ≡ Some sort.Future = sym (ap (option_map (λ (w : Variable). w.sort)) at_v) ∙ (formed_kind.states 0 first.0 first.1).holds i x e in
-          let (u, names) = has_some (pass a) (some x a at_a (sym (agrees.1 x a v at_a at_v) ∙ same_Some v.sort sort.Future is_future)) in
-          let passed : future_at call.futures x ≡ Some u = ap (λ fs. future_at fs x) as_futures ∙ mapped_at pass arguments x a at_a ∙ names in
-          let is_held : IsTrue (has x (holds_at p call.kind 0)) = subst (λ hs. IsTrue (has x hs)) (sym (holds_at-is p call.kind 0 kind first.0 is_kind first.1)) h in
-          ap is_some (kept_stays (holds_at p call.kind 0) (padded (variables_of p call.kind) None call.futures) x is_held ∙ padded_stays call.futures _ x u passed)
+          let is_some_a : IsSome (pass a) = some x a at_a (sym (agrees.1 x a v at_a at_v) ∙ same_Some v.sort sort.Future is_future) in
+          let passed : IsSome (future_at call.futures x) = ap is_some (ap (λ fs. future_at fs x) as_futures ∙ mapped_at pass arguments x a at_a) ∙ is_some_a in
+          entry_holds p call x (subst (λ hs. IsTrue (has x hs)) (sym (holds_at-is p call.kind 0 kind first.0 is_kind first.1)) h) passed
 
       settled : (x u : ℕ) → IsTrue (has x first.0.settled) → future_at (entry p call).futures x ≡ Some u → WillGive s after u
       settled x u h e =

@@ -1,32 +1,27 @@
 -- A seated frame stays seated over each line that it passes.
-use Rattle.std.proofs.Common.{◌≡◌, ℕ, suc, ◌+◌, ◌<◌, ◌≤◌, Bool, true, false, cond, nat_eq, Option, Some, None, List, [], ◌∷◌, length, map, slice_get, refl, sym, ◌∙◌, ap, subst, ◌⊎◌, inl, inr, arith}
-use Rattle.std.specs.Prelude.{IsSome, IsTrue}
+use Rattle.std.proofs.Common.{◌≡◌, ℕ, ◌+◌, ◌<◌, Bool, true, false, cond, nat_eq, Option, Some, None, List, [], ◌∷◌, length, map, slice_get, refl, sym, ◌∙◌, ap, subst, ◌⊎◌, inl, inr, arith}
+use Rattle.std.specs.Prelude.{IsTrue}
 use Rattle.std.specs.Option.{option_map}
 use Rattle.std.proofs.lemmas.Bool.{eqb-true}
-use Rattle.std.proofs.lemmas.Option.{none-some, slice_get_within}
-use Rattle.task_syntax.specs.Facts.{Facts, has, members_of, after as facts_after}
+use Rattle.std.proofs.lemmas.Option.{none-some}
+use Rattle.task_syntax.specs.Facts.{Facts, has, after as facts_after}
 use Rattle.task_syntax.specs.Places.{instr_at}
 use Rattle.task_syntax.specs.Form.{IsWellFormed, IsFormedInstr, IsFormedState, Leaves}
 use Rattle.task_syntax.specs.Valid.{Way, goes_on, jumps, JumpsTo, IsSoundInstr, IsValid}
 use Rattle.task_syntax.proofs.Bools.{either, has-first, has-rest}
-use Rattle.task_syntax.specs.declared.value.Priority.{Priority}
-use Rattle.task_syntax.specs.declared.instr.Argument.{Argument}
-use Rattle.task_syntax.specs.declared.instr.Instr.{Instr}
 use Rattle.task_syntax.specs.declared.instr.Instr.TheVariants.{Spawn, All, Get}
 use Rattle.task_syntax.specs.declared.instr.Line.{Line}
-use Rattle.task_syntax.specs.declared.program.State.{State}
-use Rattle.task_syntax.specs.declared.program.Kind.{Kind}
 use Rattle.task_syntax.specs.declared.program.Program.{Program}
 use Rattle.task_syntax.specs.declared.columns.Columns.{Columns}
 use Rattle.task_syntax.specs.declared.value.Value.{Value}
 use Rattle.task_meaning.specs.Meant.{future_at}
 use Rattle.task_meaning.specs.Frame.{FrameOf, CallOf, code_in, state_in, code_at, set_number, set_future}
-use Rattle.task_meaning.specs.Acts.{Steps, Calls, Gathers, Reads, act_of, ActsAt}
+use Rattle.task_meaning.specs.Acts.{Steps, Calls, Gathers, Reads, act_of}
 use Rattle.task_meaning.specs.Worths.{Accepted, OfAll}
 use Rattle.frame_code.proofs.Formed.{line-follows, jump-label, instr-within}
 use Rattle.record_core.specs.Numbers.{by_number, found}
 use Rattle.run_model.specs.State.{Gave, Run}
-use Rattle.run_model.specs.Step.{Request, task_list, tasks_named, call_request, all_request}
+use Rattle.run_model.specs.Step.{Request, task_list, tasks_named}
 use Rattle.run_model.specs.Move.{Goes, Asks}
 use Rattle.run_model.proofs.FramesInvariant.{IsGiven, WillGive, IsSeated}
 use Rattle.run_model.proofs.FutureFacts.{Meets, meets_renewed}
@@ -37,9 +32,11 @@ pub record Grows (r s : Run) : Type 0 where
   pub gave : (u : ℕ) (v : Value) → found r.outcomes u ≡ Some (Gave v) → found s.outcomes u ≡ Some (Gave v)
   pub calls : (n : ℕ) (call : Accepted) → by_number r.calls n ≡ Some call → by_number s.calls n ≡ Some call
 
+-- a value that was given stays given
 pub given_grows : (r s : Run) (u : ℕ) → Grows r s → IsGiven r u → IsGiven s u
 given_grows r s u grows (v, e) = (v, grows.gave u v e)
 
+-- and what will be given, still will be
 pub will_grows : (r s : Run) (after : Option ℕ) (u : ℕ) → Grows r s → WillGive r after u → WillGive s after u
 will_grows r s after u grows (inl given) = inl (given_grows r s u grows given)
 will_grows r s after u grows (inr (inl e)) = inr (inl e)
@@ -56,6 +53,7 @@ Among r a u = (listed : List ℕ) × (by_number r.calls a ≡ Some (OfAll listed
 abbrev pub MeetsIn : Run → Option ℕ → Bool → Facts → List (Option ℕ) → Type 0
 MeetsIn r after started f fs = Meets (Given r after started) (Among r) f fs
 
+-- a seated frame stays seated where more is known
 pub seat_grows : (p : Program) (r s : Run) (after : Option ℕ) (started : Bool) (q : FrameOf ℕ) → Grows r s → IsSeated p r after started q → IsSeated p s after started q
 seat_grows p r s after started q grows now = record {
   kind = now.kind;
@@ -77,12 +75,15 @@ seat_grows p r s after started q grows now = record {
     by u false will = will_grows r s after u grows will
 
 module _ (p : Program) (formed : IsWellFormed p) (valid : IsValid p) (c : Columns) (s : Run) (after : Option ℕ) (started : Bool) (q : FrameOf ℕ) (seat : IsSeated p s after started q) where
+  -- the futures of a seated frame meet the facts of its way
   pub seat_meets : MeetsIn s after started seat.facts q.futures
   seat_meets = record { held = seat.held; settled = seat.settled; members = seat.members }
 
+  -- its state is formed
   pub seat_state : IsFormedState p seat.kind seat.state
   seat_state = (formed.kinds q.kind seat.kind seat.is_kind).states q.state seat.state seat.is_state
 
+  -- its lines are those of its state
   pub seat_code : code_at p q.kind q.state ≡ seat.state.code
   seat_code = ap (λ o. code_in (state_in o q.state)) seat.is_kind ∙ ap code_in seat.is_state
 
@@ -133,6 +134,7 @@ module _ (p : Program) (formed : IsWellFormed p) (valid : IsValid p) (c : Column
     pub seat_steps : (next : FrameOf ℕ) → act_of c line.instr q ≡ Steps next → IsSeated p s after started next
     seat_steps next e = seat_onward next (steps_onward (Given s after started) (Among s) p c seat.kind seat.state line.instr seat.facts q next seat_formed seat_sound seat.futures seat.way seat_meets e)
 
+    -- and of the same kind
     pub steps_kind : (next : FrameOf ℕ) → act_of c line.instr q ≡ Steps next → next.kind ≡ q.kind
     steps_kind next e = (steps_onward (Given s after started) (Among s) p c seat.kind seat.state line.instr seat.facts q next seat_formed seat_sound seat.futures seat.way seat_meets e).kind
 
@@ -154,6 +156,7 @@ module _ (p : Program) (formed : IsWellFormed p) (valid : IsValid p) (c : Column
         (future_onward (Given s after started) (Among s) (Spawn to kind arguments waits priority retry) seat.facts q (set_future q to (Some v)) to (Some v) (λ l. l)
         (meets_renewed (Given s after started) (Among s) seat.facts q.futures to v false [] seat_meets to_within (λ h. absurd (cc h)) (λ x u h. absurd (cc h))) refl))
 
+    -- the same where it asked for an aggregate
     pub seat_gathers : (to v : ℕ) (members : List ℕ) → act_of c line.instr q ≡ Gathers to members → by_number s.calls v ≡ Some (OfAll (tasks_named q members)) → IsSeated p s after started (set_future q to (Some v))
     seat_gathers to v members e call =
         let (priority, retry, is_all) = shape_of c line.instr q (Gathers to members) e in
@@ -182,6 +185,7 @@ pub seat_goes : (p : Program) → IsWellFormed p → IsValid p → (c : Columns)
 seat_goes p formed valid c r s after started q _ seat (Goes.steps next (line, there, e)) = seat_steps p formed valid c s after started q seat line there next e
 seat_goes p formed valid c r s after started q _ seat (Goes.reads to x u n (line, there, e) names gave) = seat_reads p formed valid c s after started q seat line there to x n e
 
+-- and of the same kind
 pub goes_kind : (p : Program) → IsWellFormed p → IsValid p → (c : Columns) (r s : Run) (after : Option ℕ) (started : Bool) (q next : FrameOf ℕ) → IsSeated p s after started q → Goes p c r q next → next.kind ≡ q.kind
 goes_kind p formed valid c r s after started q _ seat (Goes.steps next (line, there, e)) = steps_kind p formed valid c s after started q seat line there next e
 goes_kind p formed valid c r s after started q _ seat (Goes.reads to x u n acts names gave) = refl

@@ -1,6 +1,6 @@
 -- What stands of frames and aggregates, said of each task under way by its body and its live number.
-use Rattle.std.proofs.Common.{◌≡◌, ℕ, suc, ◌+◌, ◌<◌, ◌≤◌, Bool, true, false, Option, Some, None, List, [], ◌∷◌, length, slice_get, refl, sym, ◌∙◌, ap, subst, arith}
-use Rattle.std.proofs.lemmas.Option.{none-some, same_Some}
+use Rattle.std.proofs.Common.{◌≡◌, ℕ, suc, ◌<◌, ◌≤◌, Bool, Option, Some, List, length, slice_get, sym, ◌∙◌, ap, subst, arith}
+use Rattle.std.proofs.lemmas.Option.{same_Some}
 use Rattle.task_syntax.specs.declared.value.Value.{Value}
 use Rattle.task_syntax.specs.declared.program.Program.{Program}
 use Rattle.task_meaning.specs.Frame.{FrameOf, CallOf}
@@ -26,6 +26,7 @@ pub record IsGathering (s : Run) (t : ℕ) (after : Option ℕ) (members : List 
   pub within : next ≤ length members
   pub given : (at u : ℕ) → suc at < next → slice_get members at ≡ Some u → IsGiven s u
 
+-- what stands of a body of a task, whose live number is behind `after`
 abbrev pub BodyStands : Program → Run → ℕ → Option ℕ → Bool → Body → Type 0
 BodyStands p s t after started (OfKind q) = IsFramed p s t after started q
 BodyStands p s t after started (OfMembers members next) = IsGathering s t after members next
@@ -34,14 +35,17 @@ BodyStands p s t after started (OfMembers members next) = IsGathering s t after 
 abbrev pub IsComplete : Run → Type 0
 IsComplete s = (t at u : ℕ) (v : Value) (members : List ℕ) → by_number s.calls t ≡ Some (OfAll members) → found s.outcomes t ≡ Some (Gave v) → slice_get members at ≡ Some u → IsGiven s u
 
+-- what runs is behind none, or behind a task that gave a value
 abbrev pub RunsBehind : Run → Type 0
 RunsBehind s = (n u : ℕ) (row : ActivationRow) → s.running ≡ Some n → by_number s.journal.rows n ≡ Some row → row.after ≡ Some u → IsGiven s u
 
+-- all of this together
 pub record TasksStand (p : Program) (s : Run) : Type 0 where
   pub tasks : (t n : ℕ) (row : ActivationRow) (body : Body) → IsLive s t n row → found s.bodies t ≡ Some body → BodyStands p s t row.after (has_started row) body
   pub complete : IsComplete s
   pub runs_behind : RunsBehind s
 
+-- it stays where more is known
 pub body_grows : (p : Program) (r s : Run) (t : ℕ) (after : Option ℕ) (started : Bool) (body : Body) → Grows r s → BodyStands p r t after started body → BodyStands p s t after started body
 body_grows p r s t after started (OfKind q) grows now = record {
   seat = seat_grows p r s after started q grows now.seat;
@@ -61,12 +65,14 @@ kinds_differ o call waits members e f = wrong (same_Some (OfCall call waits) (Of
     wrong : OfCall call waits ≡ OfAll members → ⊥
     wrong h = cc
 
+-- two member lists of one call are the same
 pub same_members : (o : Option Accepted) (members other : List ℕ) → o ≡ Some (OfAll members) → o ≡ Some (OfAll other) → members ≡ other
 same_members o members other e f = same (same_Some (OfAll members) (OfAll other) (sym e ∙ f))
   where
     same : OfAll members ≡ OfAll other → members ≡ other
     same h = cc
 
+-- the invariant says this of each task under way
 pub tasks_of : (p : Program) (r : Run) → FramesStand p r → TasksStand p r
 tasks_of p r now = record { tasks = tasks; complete = now.complete; runs_behind = now.runs_behind }
   where
@@ -80,6 +86,7 @@ tasks_of p r now = record { tasks = tasks; complete = now.complete; runs_behind 
         same_next : (members others : List ℕ) (next other : ℕ) → ◌≡◌ {A = Body} (OfMembers members next) (OfMembers others other) → next ≡ other
         same_next members others next other h = cc
 
+-- and the other way round, where numbers stand
 pub frames_of : (p : Program) (s : Run) → NumbersStand s → TasksStand p s → FramesStand p s
 frames_of p s held now = record {
   seated = λ t n row q live has. (now.tasks t n row (OfKind q) live has).seat;
