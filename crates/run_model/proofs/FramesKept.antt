@@ -29,7 +29,7 @@ use Rattle.record_core.specs.declared.rows.ActivationRow.{ActivationRow}
 use Rattle.record_core.specs.declared.rows.Cause.TheVariants as cause
 use Rattle.record_core.specs.declared.rows.CutTag.{CutTag}
 use Rattle.run_model.specs.State.{Body, Gave, WasCut, Named, Refused, Skipped, Run}
-use Rattle.run_model.specs.Step.{Request, task_list, tasks_named, own_tasks, root_request, at_first, accepts, with_body, with_root, cause_of_cut, call_request, asked_priority}
+use Rattle.run_model.specs.Step.{Request, steps, asked, task_list, tasks_named, own_tasks, root_request, at_first, accepts, with_body, with_root, cause_of_cut, call_request, asked_priority}
 use Rattle.run_model.specs.Move.{Notes, with_notes, RunsAt, Asks, Answers, Renews, Move, RootMove, begins}
 use Rattle.run_model.proofs.ByNumber.{snoc_new, snoc_old, found_old, has_some, none_of_empty}
 use Rattle.run_model.proofs.NumbersInvariant.{NumbersStand}
@@ -43,7 +43,8 @@ use Rattle.run_model.proofs.SeatFacts.{Grows, given_grows, seat_grows, seat_form
 use Rattle.run_model.proofs.SeatEntries.{spawn_seated, again_seated, root_seated}
 use Rattle.run_model.proofs.TasksStand.{IsFramed, IsGathering, BodyStands, TasksStand, kinds_differ, same_members, tasks_of, frames_of}
 use Rattle.run_model.proofs.FramesParts.{renewed_run, stand_noted, stand_root, stand_arrives, stand_body, stand_accepts, stand_renewed, stand_ends, begins_others, stand_begins}
-use Rattle.run_model.proofs.Reached.{IsNextRoot}
+use Rattle.run_model.proofs.Reached.{IsNextRoot, IsKept, always}
+use Rattle.run_model.proofs.NumbersKept.{numbers_first, numbers_root, numbers_move}
 
 pub frames_first : (p : Program) (plan : RunPlan) → FramesStand p (at_first plan)
 frames_first p plan = record {
@@ -249,3 +250,19 @@ module _ (p : Program) (formed : IsWellFormed p) (valid : IsValid p) (c : Column
 
   pub frames_move : (r s : Run) → NumbersStand r → NumbersStand s → FramesStand p r → Move p c units r s → FramesStand p s
   frames_move r s held held_s now move = frames_of p s held_s (move_stands r s held (tasks_of p r now) move)
+
+-- numbers, frames and aggregates stand at each step of a run of a valid program
+record HeldFrames (p : Program) (r : Run) : Type 0 where
+  held : NumbersStand r
+  frames : FramesStand p r
+
+pub frames_always : (p : Program) → IsWellFormed p → IsValid p → (c : Columns) (plan : RunPlan) (taken : ℕ) → FramesStand p (steps p c plan.units taken (asked p plan))
+frames_always p formed valid c plan taken = (always p c plan (HeldFrames p) kept taken).frames
+  where
+    kept : IsKept p c plan (HeldFrames p)
+    kept = record {
+      first = record { held = numbers_first plan; frames = frames_first p plan };
+      root = λ r s root next now move. let held = numbers_root p plan.units r s root next now.held move in
+          record { held = held; frames = frames_root p formed valid plan.units r s root next now.held held now.frames move };
+      move = λ r s now move. let held = numbers_move p c plan.units r s now.held move in record { held = held; frames = frames_move p formed valid c plan.units r s now.held held now.frames move };
+    }

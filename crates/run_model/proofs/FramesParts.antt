@@ -12,7 +12,7 @@ use Rattle.task_meaning.specs.Worths.{Accepted, OfAll, Respawn}
 use Rattle.pool_core.specs.Blocks.{BlockState}
 use Rattle.frame_code.specs.Words.{OfKind, OfMembers}
 use Rattle.record_core.specs.Numbers.{by_number, put_number, flat, found, HasTask}
-use Rattle.record_core.specs.Journal.{next_number, started_rows}
+use Rattle.record_core.specs.Journal.{next_number}
 use Rattle.record_core.specs.declared.rows.ActivationRow.{ActivationRow}
 use Rattle.record_core.specs.declared.rows.Cause.{Cause}
 use Rattle.record_core.specs.declared.rows.CutTag.{CutTag}
