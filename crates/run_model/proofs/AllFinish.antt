@@ -1,21 +1,21 @@
 -- Where a run is over, each task has finished, and each activation has started.
-use Rattle.std.proofs.Common.{◌≡◌, ◌⊎◌, ℕ, zero, suc, ◌+◌, ◌<◌, ◌≤◌, Option, Some, None, List, [], ◌∷◌, length, refl, sym, ◌∙◌, ap, subst, inl, inr, ⊎_elim, arith}
+use Rattle.std.proofs.Common.{◌≡◌, ℕ, zero, suc, ◌+◌, ◌<◌, ◌≤◌, Option, Some, None, List, [], ◌∷◌, refl, sym, ◌∙◌, ap, inr, ⊎_elim, arith}
 use Rattle.std.specs.Prelude.{IsSome}
 use Rattle.std.specs.Option.{is_some}
 use Rattle.std.proofs.lemmas.Bool.{false≢true}
-use Rattle.std.proofs.lemmas.Option.{none-some, same_Some, slice_get_within}
+use Rattle.std.proofs.lemmas.Option.{none-some}
 use Rattle.record_core.specs.Sums.{total}
 use Rattle.record_core.specs.Numbers.{by_number, found, HasTask}
 use Rattle.record_core.specs.Journal.{finish_of}
 use Rattle.record_core.specs.declared.rows.ActivationRow.{ActivationRow}
 use Rattle.run_model.specs.State.{Queues, Run, first_queued, next_queued}
-use Rattle.run_model.specs.Step.{list_or, waiters_of}
+use Rattle.run_model.specs.Step.{waiters_of}
 use Rattle.run_model.proofs.StandsStill.{IsQuiet}
 use Rattle.run_model.proofs.ByNumber.{has_some}
 use Rattle.run_model.proofs.NumbersInvariant.{times, times_ready, NumbersStand, IsLiveAt}
 use Rattle.run_model.proofs.NumbersParts.{behind_task}
 use Rattle.run_model.proofs.QueueFacts.{waits_still}
-use Rattle.run_model.proofs.RankInvariant.{Names, RankStands}
+use Rattle.run_model.proofs.RankInvariant.{RankStands}
 
 -- where a sum of counts is not 0, one of the counts is not
 some_of_total : (n : ℕ) (lists : List (List ℕ)) → 1 ≤ total (times n) lists → (u : ℕ) × (1 ≤ times n (waiters_of lists u))

@@ -1,6 +1,6 @@
 -- What a run keeps of blocks: those in use are out of a sound pool, each for one task, and of its class; and the first
 -- null answer saw a pool without room.
-use Rattle.std.specs.Prelude.{◌≡◌, ℕ, ◌≤◌, Option, Some, IsSome, IsTrue, List, length}
+use Rattle.std.specs.Prelude.{◌≡◌, ℕ, ◌≤◌, Option, Some, IsSome, IsTrue, length}
 use Rattle.task_syntax.specs.Places.{Each}
 use Rattle.task_syntax.specs.declared.program.Program.{Program}
 use Rattle.task_meaning.specs.Worths.{Accepted, OfCall, OfAll, Respawn}

@@ -1,5 +1,5 @@
 -- What a run keeps of calls: the row of a number is as its call says, and a call names earlier tasks.
-use Rattle.std.specs.Prelude.{◌≡◌, ℕ, ◌<◌, ◌⊎◌, Option, Some, List, slice_get}
+use Rattle.std.specs.Prelude.{◌≡◌, ℕ, ◌<◌, ◌⊎◌, Some, List, slice_get}
 use Rattle.task_meaning.specs.Meant.{future_at}
 use Rattle.task_meaning.specs.Worths.{Accepted, OfCall, OfAll, Respawn}
 use Rattle.record_core.specs.Numbers.{by_number, HasTask}

@@ -1,5 +1,5 @@
 -- Each move keeps where cuts come from.
-use Rattle.std.proofs.Common.{◌≡◌, ◌≢◌, ◌⊎◌, ℕ, suc, ◌+◌, ◌<◌, ◌≤◌, Bool, true, false, nat_lt, Option, Some, None, List, [], ◌∷◌, ◌++◌, length, slice_get, refl, sym, ◌∙◌, ap, subst, inl, inr, ⊎_elim, arith}
+use Rattle.std.proofs.Common.{◌≡◌, ◌≢◌, ◌⊎◌, ℕ, ◌+◌, ◌<◌, ◌≤◌, true, false, Option, Some, None, List, [], ◌∷◌, ◌++◌, length, slice_get, refl, sym, ◌∙◌, ap, subst, inl, inr, ⊎_elim, arith}
 use Rattle.std.specs.Prelude.{IsSome}
 use Rattle.std.specs.Option.{is_some}
 use Rattle.std.proofs.lemmas.Bool.{cases_eq, false≢true, ltb-true, ltb-false}
@@ -8,8 +8,8 @@ use Rattle.task_syntax.specs.declared.value.Value.{Value}
 use Rattle.task_syntax.specs.declared.program.Root.{Root as RootLine}
 use Rattle.task_syntax.specs.declared.program.Program.{Program}
 use Rattle.task_syntax.specs.declared.columns.Columns.{Columns}
-use Rattle.record_core.specs.Numbers.{by_number, put_number, flat, found, HasTask}
-use Rattle.record_core.specs.Journal.{JournalState, task_or, next_number, with_accepted, with_finished, started_rows, unfinished, finish_of, cause_in, cause_of, Finishes, is_cut, IsRefusal, Leads, IsLastBehind, AreOfTasks, IsJournal}
+use Rattle.record_core.specs.Numbers.{by_number, put_number, flat, found}
+use Rattle.record_core.specs.Journal.{JournalState, task_or, next_number, with_accepted, with_finished, started_rows, unfinished, finish_of, cause_in, cause_of, Finishes, is_cut, IsRefusal, Leads, IsLastBehind, IsJournal}
 use Rattle.record_core.specs.declared.rows.ActivationRow.{ActivationRow}
 use Rattle.record_core.specs.declared.rows.TaskRow.{TaskRow}
 use Rattle.record_core.specs.declared.rows.Cause.{Cause}
@@ -20,7 +20,7 @@ use Rattle.run_model.specs.State.{Body, Outcome, Gave, WasCut, RootWord, Named, 
 use Rattle.run_model.specs.Move.{Notes, with_notes, RunsAt, Refuses, RefusesRoot, begins, Move, RootMove}
 use Rattle.run_model.specs.Step.{cause_of_cut, has_number, arrives, waits_or_queues, accepts, draws, with_body, with_root, root_request, at_first}
 use Rattle.run_model.proofs.ByNumber.{none_of_empty, has_some, length_put, snoc_old, snoc_cases, found_put, found_put_other}
-use Rattle.run_model.proofs.LiveFacts.{same_row, one_started, WasRow, finish_snoc, outcome_snoc, task_within, OneStarted, was_row, row_then}
+use Rattle.run_model.proofs.LiveFacts.{same_row, one_started, WasRow, finish_snoc, outcome_snoc, task_within, was_row, row_then}
 use Rattle.run_model.proofs.NumbersInvariant.{NumbersStand}
 use Rattle.run_model.proofs.QueueFacts.{times_self, times_next}
 use Rattle.run_model.proofs.NumbersParts.{slice_snoc, next_row}

@@ -1,6 +1,6 @@
 -- What a run keeps of counts, for a program whose counts the meaning has, within the limit, in a pool that suffices: what
 -- was accepted, and what is still counted from the frames under way and the roots to come, are together what it counts.
-use Rattle.std.specs.Prelude.{◌≡◌, ◌≢◌, ℕ, ◌+◌, Option, Some, None, List, [], length, drop}
+use Rattle.std.specs.Prelude.{◌≡◌, ◌≢◌, ℕ, ◌+◌, Some, None, List, length, drop}
 use Rattle.task_syntax.specs.Places.{Each, EachAt}
 use Rattle.task_syntax.specs.declared.value.Value.{Value}
 use Rattle.task_syntax.specs.declared.program.Program.{Program}

@@ -1,5 +1,5 @@
 -- What an ended run answers is in order, and each of its cuts has a cause.
-use Rattle.std.proofs.Common.{◌≡◌, ◌↔◌, ◌⊎◌, ℕ, zero, suc, ◌+◌, ◌<◌, ◌≤◌, true, Option, Some, None, List, [], ◌∷◌, length, map, slice_get, refl, sym, ◌∙◌, ap, subst, inl, inr, ⊎_elim, arith}
+use Rattle.std.proofs.Common.{◌≡◌, ◌↔◌, ℕ, zero, suc, ◌+◌, ◌≤◌, true, Option, Some, None, List, [], ◌∷◌, length, map, slice_get, refl, sym, ◌∙◌, ap, subst, arith}
 use Rattle.std.specs.Prelude.{IsSome}
 use Rattle.std.specs.Option.{is_some, option_map, option_or}
 use Rattle.std.proofs.lemmas.Bool.{false≢true}
@@ -7,7 +7,6 @@ use Rattle.std.proofs.lemmas.Option.{none-some, same_Some}
 use Rattle.task_syntax.specs.Places.{Each, EachAt}
 use Rattle.task_syntax.specs.declared.program.Root.{Root as RootLine}
 use Rattle.task_syntax.specs.declared.program.Program.{Program}
-use Rattle.task_syntax.specs.declared.value.Value.{Value as ValueOf}
 use Rattle.task_meaning.specs.Meant.{future_at}
 use Rattle.task_meaning.specs.Roots.{root_call}
 use Rattle.task_meaning.specs.RootLaws.{root_waits}
@@ -16,9 +15,9 @@ use Rattle.record_core.specs.Sums.{total}
 use Rattle.record_core.specs.Numbers.{by_number, found, HasTask}
 use Rattle.record_core.specs.Journal.{AreStampedOnce, CausesLead, Leads, task_count, finish_of, cause_of, is_cut}
 use Rattle.record_core.specs.EndSeen.{RunPlan}
-use Rattle.record_core.specs.EndSound.{HasNoRetry, IsOwnEnd, AreOwn, IsCutAsNamed, IsValueEnd, null_task, null_root, null_ends}
+use Rattle.record_core.specs.EndSound.{HasNoRetry, IsOwnEnd, AreOwn, IsCutAsNamed, IsValueEnd, null_root, null_ends}
 use Rattle.record_core.specs.EndFaithful.{IsUncut, EndFaithful}
-use Rattle.record_core.specs.RootEnds.{roots_named, cut_without_task, without_task, first_without_task, cut_from_root}
+use Rattle.record_core.specs.RootEnds.{roots_named, cut_without_task, first_without_task, cut_from_root}
 use Rattle.record_core.specs.declared.rows.ActivationRow.{ActivationRow}
 use Rattle.record_core.specs.declared.rows.Cause.TheVariants as cause
 use Rattle.record_core.specs.declared.rows.RootEnd.{RootEnd}
@@ -31,7 +30,6 @@ use Rattle.run_model.specs.State.{Outcome, Gave, WasCut, RootWord, Named, Refuse
 use Rattle.run_model.specs.Step.{own_task, own_tasks, taskless, first_taskless}
 use Rattle.run_model.specs.End.{end_at, root_end, end_seen}
 use Rattle.run_model.proofs.StandsStill.{IsQuiet}
-use Rattle.run_model.proofs.ByNumber.{has_some}
 use Rattle.run_model.proofs.NamesFacts.{own_named}
 use Rattle.run_model.proofs.NullsInvariant.{null_word}
 use Rattle.run_model.proofs.RootsInvariant.{skipped_from, RootsStand}

@@ -9,7 +9,7 @@ use Rattle.task_syntax.specs.declared.program.Program.{Program}
 use Rattle.task_syntax.specs.declared.value.Value.{Value}
 use Rattle.task_meaning.specs.Meant.{future_at}
 use Rattle.task_meaning.specs.Frame.{FrameOf, CallOf}
-use Rattle.task_meaning.specs.Worths.{Accepted, OfCall, OfAll}
+use Rattle.task_meaning.specs.Worths.{OfCall, OfAll}
 use Rattle.frame_code.specs.Words.{OfKind, OfMembers}
 use Rattle.record_core.specs.Numbers.{by_number, found}
 use Rattle.record_core.specs.declared.rows.ActivationRow.{ActivationRow}

@@ -1,22 +1,20 @@
 -- What stands in the journal of a run stays there.
-use Rattle.std.proofs.Common.{◌≡◌, ℕ, zero, suc, ◌+◌, true, Option, Some, None, List, [], ◌∷◌, refl, sym, ◌∙◌, ap, inl, inr}
+use Rattle.std.proofs.Common.{ℕ, zero, suc, Option, Some, None, refl, ◌∙◌, ap, inl, inr}
 use Rattle.std.specs.Option.{is_some}
 use Rattle.task_syntax.specs.declared.program.Program.{Program}
 use Rattle.task_syntax.specs.declared.columns.Columns.{Columns}
 use Rattle.task_meaning.specs.Worths.{Respawn}
 use Rattle.task_meaning.specs.Frame.{set_future}
 use Rattle.frame_code.specs.Words.{OfKind}
-use Rattle.record_core.specs.Numbers.{by_number, found}
+use Rattle.record_core.specs.Numbers.{found}
 use Rattle.record_core.specs.Journal.{JournalState, next_number, finish_of}
 use Rattle.record_core.specs.JournalLaws.{GrowsFrom}
-use Rattle.record_core.specs.EndSeen.{RunPlan}
-use Rattle.record_core.specs.declared.rows.ActivationRow.{ActivationRow}
 use Rattle.record_core.specs.declared.rows.Cause.TheVariants as cause
 use Rattle.record_core.proofs.AcceptFacts.{accept-tells}
 use Rattle.record_core.proofs.BeginFacts.{begun_tells, begin-keeps}
 use Rattle.record_core.proofs.FinishFacts.{finished_tells}
 use Rattle.run_model.specs.State.{Outcome, Run}
-use Rattle.run_model.specs.Step.{arrives, waits_or_queues, accepts, draws, with_body, step, steps, asked, cause_of_cut}
+use Rattle.run_model.specs.Step.{arrives, waits_or_queues, accepts, draws, with_body, step, steps, cause_of_cut}
 use Rattle.run_model.specs.Move.{with_notes, begins, Move, StaysOrMoves}
 use Rattle.run_model.proofs.Traversal.{step_moves}
 use Rattle.run_model.proofs.NumbersParts.{held_starts, started_runs}

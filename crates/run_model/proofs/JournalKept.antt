@@ -1,9 +1,8 @@
 -- Each move writes into the journal under the conditions of its calls.
-use Rattle.std.proofs.Common.{◌≡◌, ◌⊎◌, ℕ, ◌+◌, ◌<◌, ◌≤◌, Bool, true, false, Option, Some, None, List, [], ◌∷◌, length, refl, sym, ◌∙◌, ap, subst, inl, inr, ⊎_elim, arith}
+use Rattle.std.proofs.Common.{◌≡◌, ℕ, true, Option, Some, None, [], length, refl, ap, inr, arith}
 use Rattle.std.specs.Prelude.{IsSome, IfSome}
 use Rattle.std.specs.Option.{is_some}
-use Rattle.std.proofs.lemmas.Bool.{false≢true, ltb-true}
-use Rattle.std.proofs.lemmas.Option.{none-some, same_Some}
+use Rattle.std.proofs.lemmas.Bool.{ltb-true}
 use Rattle.task_syntax.specs.declared.program.Root.{Root as RootLine}
 use Rattle.task_syntax.specs.declared.program.Program.{Program}
 use Rattle.task_syntax.specs.declared.columns.Columns.{Columns}
@@ -11,7 +10,7 @@ use Rattle.task_meaning.specs.Worths.{Respawn}
 use Rattle.task_meaning.specs.Frame.{set_future}
 use Rattle.frame_code.specs.Words.{OfKind}
 use Rattle.record_core.specs.Numbers.{by_number, found, HasTask}
-use Rattle.record_core.specs.Journal.{JournalState, empty_journal, next_number, with_accepted, with_begun, with_finished, finish_of, cause_of, is_cut, IsJournal, IsUnderWay, MayBegin, MayCause}
+use Rattle.record_core.specs.Journal.{JournalState, next_number, with_accepted, with_finished, finish_of, IsUnderWay, MayBegin, MayCause}
 use Rattle.record_core.specs.EndSeen.{RunPlan}
 use Rattle.record_core.specs.declared.rows.ActivationRow.{ActivationRow}
 use Rattle.record_core.specs.declared.rows.Cause.{Cause}
@@ -22,11 +21,11 @@ use Rattle.record_core.proofs.JournalFacts.{empty-is_journal}
 use Rattle.record_core.proofs.AcceptFacts.{accept-keeps}
 use Rattle.record_core.proofs.BeginFacts.{begin-keeps}
 use Rattle.record_core.proofs.FinishFacts.{finish-keeps}
-use Rattle.run_model.specs.State.{Body, Outcome, Gave, WasCut, Named, Queues, Run, next_queued}
-use Rattle.run_model.specs.Step.{Request, arrives, waits_or_queues, accepts, draws, with_body, with_root, root_request, cause_of_cut, has_number, at_first}
+use Rattle.run_model.specs.State.{Body, Outcome, Named, Queues, Run, next_queued}
+use Rattle.run_model.specs.Step.{arrives, waits_or_queues, accepts, draws, with_body, with_root, root_request, cause_of_cut, has_number, at_first}
 use Rattle.run_model.specs.Move.{with_notes, RunsAt, begins, Move, RootMove}
-use Rattle.run_model.proofs.NumbersInvariant.{NumbersStand, IsLiveAt}
-use Rattle.run_model.proofs.NamesFacts.{RequestNames, asks_named, renews_named, root_named}
+use Rattle.run_model.proofs.NumbersInvariant.{NumbersStand}
+use Rattle.run_model.proofs.NamesFacts.{asks_named, renews_named, root_named}
 use Rattle.run_model.proofs.LiveFacts.{no_wait}
 use Rattle.run_model.proofs.QueueFacts.{times_self, times_next}
 use Rattle.run_model.proofs.NumbersParts.{if_some_from, next_row, held_starts, started_runs}

@@ -1,7 +1,6 @@
 -- Who is named by what a task goes on to, by what it asks for, and by what it is renewed as: all are named before.
-use Rattle.std.proofs.Common.{◌≡◌, ◌≢◌, ◌⊎◌, ℕ, zero, suc, ◌+◌, ◌-◌, Bool, true, false, cond, Option, Some, None, List, [], ◌∷◌, ◌++◌, length, map, replicate, slice_get, refl, sym, ◌∙◌, ap, inl, inr, ⊎_elim, arith}
-use Rattle.std.specs.Prelude.{slice_set, slice_index_or}
-use Rattle.std.proofs.lemmas.Bool.{cases_eq}
+use Rattle.std.proofs.Common.{◌≡◌, ◌⊎◌, ℕ, zero, suc, ◌+◌, ◌-◌, Bool, true, false, cond, Option, Some, None, List, [], ◌∷◌, ◌++◌, length, map, replicate, slice_get, refl, ◌∙◌, ap, inl, inr, ⊎_elim}
+use Rattle.std.specs.Prelude.{slice_set}
 use Rattle.std.proofs.lemmas.Option.{none-some, same_Some}
 use Rattle.task_syntax.specs.Facts.{has}
 use Rattle.task_syntax.specs.declared.instr.Argument.{Argument}
@@ -22,7 +21,7 @@ use Rattle.task_syntax.specs.declared.value.Priority.{Priority}
 use Rattle.task_syntax.specs.declared.program.RootArgument.{RootArgument}
 use Rattle.task_syntax.specs.declared.program.RootArgument.TheVariants as root_argument
 use Rattle.task_meaning.specs.Meant.{future_at}
-use Rattle.task_meaning.specs.Frame.{FrameOf, CallOf, entry, enter, jump, go_on, operand, spawned, variables_of, holds_at, kept, kept_from, padded, future_passed, set_future, set_number}
+use Rattle.task_meaning.specs.Frame.{FrameOf, CallOf, entry, enter, jump, go_on, operand, spawned, variables_of, holds_at, kept_from, padded, future_passed, set_future, set_number}
 use Rattle.run_model.specs.State.{Body, RootWord, Named, Refused, Skipped, Run}
 use Rattle.run_model.specs.Step.{Request, task_list, own_task, own_tasks, root_request}
 use Rattle.run_model.specs.Move.{Notes, Goes, Asks, Renews}

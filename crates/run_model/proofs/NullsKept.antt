@@ -1,6 +1,6 @@
 -- Each move keeps the account of null answers.
-use Rattle.std.proofs.Common.{◌≡◌, ◌↔◌, ℕ, zero, suc, ◌+◌, ◌≤◌, Bool, true, false, Option, Some, None, List, [], ◌∷◌, ◌++◌, length, slice_get, refl, sym, ◌∙◌, ap, subst, arith}
-use Rattle.std.proofs.lemmas.Option.{none-some, same_Some}
+use Rattle.std.proofs.Common.{◌≡◌, ◌↔◌, ℕ, zero, suc, ◌+◌, ◌≤◌, true, Option, Some, None, List, [], ◌∷◌, ◌++◌, length, refl, sym, ◌∙◌, ap, arith}
+use Rattle.std.proofs.lemmas.Option.{none-some}
 use Rattle.task_syntax.specs.declared.value.Priority.{Priority}
 use Rattle.task_syntax.specs.declared.program.Root.{Root as RootLine}
 use Rattle.task_syntax.specs.declared.program.Program.{Program}
@@ -10,17 +10,17 @@ use Rattle.task_meaning.specs.Worths.{Respawn}
 use Rattle.task_meaning.specs.Frame.{set_future}
 use Rattle.frame_code.specs.Words.{OfKind}
 use Rattle.record_core.specs.Sums.{total}
-use Rattle.record_core.specs.Numbers.{by_number, put_number, found}
+use Rattle.record_core.specs.Numbers.{put_number, found}
 use Rattle.record_core.specs.Journal.{next_number, unfinished, cause_in, cause_of}
 use Rattle.record_core.specs.EndSeen.{RunPlan}
-use Rattle.record_core.specs.EndSound.{null_task, HasNoRetry}
+use Rattle.record_core.specs.EndSound.{null_task}
 use Rattle.record_core.specs.declared.rows.TaskRow.{TaskRow}
 use Rattle.record_core.specs.declared.rows.Cause.{Cause}
 use Rattle.record_core.specs.declared.rows.Cause.TheVariants as cause
 use Rattle.record_core.specs.declared.rows.CutTag.{CutTag}
 use Rattle.record_core.specs.declared.rows.CutTag.TheVariants.{Null, Limit}
 use Rattle.record_core.proofs.TotalFacts.{total-set, total-snoc}
-use Rattle.run_model.specs.State.{Body, Outcome, RootWord, Named, Refused, Skipped, Evidence, Run}
+use Rattle.run_model.specs.State.{Body, Outcome, Named, Refused, Skipped, Evidence, Run}
 use Rattle.run_model.specs.Step.{arrives, waits_or_queues, accepts, draws, with_body, with_root, root_request, evidence_or, cause_of_cut, at_first}
 use Rattle.run_model.specs.Move.{Notes, with_notes, RunsAt, begins, Renews, Refuses, RefusesRoot, Move, RootMove}
 use Rattle.run_model.proofs.ByNumber.{member_at}

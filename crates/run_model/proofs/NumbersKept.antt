@@ -1,5 +1,5 @@
 -- Each move keeps the numbers, live tasks and names, whatever the program is.
-use Rattle.std.proofs.Common.{◌≡◌, ◌⊎◌, ℕ, suc, ◌+◌, ◌<◌, ◌≤◌, Option, Some, None, List, [], ◌∷◌, ◌++◌, length, slice_get, refl, sym, ◌∙◌, ap, subst, inl, inr, ⊎_elim, arith}
+use Rattle.std.proofs.Common.{◌≡◌, ℕ, Some, None, List, [], ◌∷◌, ◌++◌, slice_get, refl, sym, ◌∙◌, ap, subst, ⊎_elim, arith}
 use Rattle.std.specs.Prelude.{IsSome}
 use Rattle.std.specs.Option.{is_some}
 use Rattle.std.proofs.lemmas.Bool.{false≢true}
@@ -18,8 +18,8 @@ use Rattle.run_model.specs.Step.{Request, accepts, with_body, with_root, root_re
 use Rattle.record_core.specs.declared.rows.Cause.TheVariants as cause
 use Rattle.run_model.specs.Move.{Notes, with_notes, RunsAt, begins, Move, RootMove}
 use Rattle.run_model.proofs.ByNumber.{snoc_new, found_old, none_of_empty}
-use Rattle.run_model.proofs.NumbersInvariant.{not_started, BodyNames, NumbersHeld, NumbersStand}
-use Rattle.run_model.proofs.NamesFacts.{FrameNames, RequestNames, goes_names, asks_named, renews_named, set_named, root_named}
+use Rattle.run_model.proofs.NumbersInvariant.{not_started, BodyNames, NumbersStand}
+use Rattle.run_model.proofs.NamesFacts.{RequestNames, goes_names, asks_named, renews_named, set_named, root_named}
 use Rattle.run_model.proofs.LiveFacts.{task_snoc, task_within}
 use Rattle.run_model.proofs.NumbersParts.{held_body, held_root, held_drawn, held_renewed, held_arrives, held_ends, held_starts, started_runs}
 use Rattle.run_model.proofs.Reached.{IsNextRoot}

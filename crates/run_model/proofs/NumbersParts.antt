@@ -12,11 +12,11 @@ use Rattle.record_core.specs.Journal.{started_rows, task_or, next_number, unfini
 use Rattle.record_core.specs.declared.rows.ActivationRow.{ActivationRow}
 use Rattle.record_core.specs.declared.rows.TaskRow.{TaskRow}
 use Rattle.record_core.specs.declared.rows.Cause.{Cause}
-use Rattle.run_model.specs.State.{Body, Outcome, RootWord, Named, Refused, Skipped, Queues, Run, next_queued}
+use Rattle.run_model.specs.State.{Body, Outcome, RootWord, Named, Queues, Run, next_queued}
 use Rattle.run_model.specs.Step.{Request, all_queued, waiters_of, arrives, waits_or_queues, completes, draws, with_body, accepts, with_root}
 use Rattle.run_model.specs.Move.{RunsAt, begins}
-use Rattle.run_model.proofs.ByNumber.{length_snoc, length_put, number_within, member_at, snoc_new, snoc_old, snoc_cases, put_same, put_other, found_new, found_other, found_put, found_put_other, found_within, has_some}
-use Rattle.run_model.proofs.NumbersInvariant.{BodyNames, NamesTasks, Beside, NumbersHeld, IsLiveAt, Live, not_started, times, times_ready}
+use Rattle.run_model.proofs.ByNumber.{length_snoc, length_put, member_at, snoc_new, snoc_cases, put_same, put_other, found_new, found_other, found_put, found_put_other, found_within, has_some}
+use Rattle.run_model.proofs.NumbersInvariant.{BodyNames, Beside, NumbersHeld, IsLiveAt, Live}
 use Rattle.run_model.proofs.NamesFacts.{RequestNames}
 use Rattle.run_model.proofs.LiveFacts.{OneStarted, read_snoc, task_snoc, task_within, same_row, body_task, one_started, was_row, task_then, live_body, live_new, live_respawn, live_ends, live_starts}
 use Rattle.run_model.proofs.QueueFacts.{numbers_drawn, numbers_queue, numbers_wait, numbers_ends, numbers_start, row_of_number, times_next, times_self}

@@ -1,5 +1,5 @@
 -- Each move keeps that outcomes and causes agree.
-use Rattle.std.proofs.Common.{◌≡◌, ◌≢◌, ◌⊎◌, ℕ, suc, ◌+◌, ◌<◌, ◌≤◌, true, Option, Some, None, List, [], ◌∷◌, ◌++◌, length, slice_get, refl, sym, ◌∙◌, ap, subst, inl, inr, ⊎_elim, arith}
+use Rattle.std.proofs.Common.{◌≡◌, ◌≢◌, ℕ, ◌+◌, ◌≤◌, true, Option, Some, None, List, [], ◌∷◌, ◌++◌, length, refl, sym, ◌∙◌, ap, ⊎_elim, arith}
 use Rattle.std.proofs.lemmas.Bool.{cases_eq}
 use Rattle.std.proofs.lemmas.Option.{none-some, same_Some}
 use Rattle.task_syntax.specs.declared.value.Value.{Value}
@@ -19,7 +19,7 @@ use Rattle.record_core.specs.declared.rows.Cause.TheVariants as cause
 use Rattle.record_core.specs.declared.rows.CutTag.{CutTag}
 use Rattle.record_core.specs.declared.rows.CutTag.TheVariants.{Null, Limit}
 use Rattle.run_model.specs.State.{Outcome, Gave, WasCut, Named, Run}
-use Rattle.run_model.specs.Step.{Request, arrives, waits_or_queues, accepts, draws, with_body, with_root, root_request, cause_of_cut, at_first}
+use Rattle.run_model.specs.Step.{arrives, waits_or_queues, accepts, draws, with_body, with_root, root_request, cause_of_cut, at_first}
 use Rattle.run_model.specs.Move.{with_notes, RunsAt, begins, Move, RootMove}
 use Rattle.run_model.proofs.ByNumber.{member_at, put_same, put_other, found_put, found_put_other, none_of_empty}
 use Rattle.run_model.proofs.NumbersInvariant.{NumbersStand}

@@ -8,13 +8,13 @@ use Rattle.task_syntax.specs.declared.value.Priority.{Priority}
 use Rattle.task_syntax.specs.declared.value.Priority.TheVariants.{High, Regular, Low}
 use Rattle.record_core.specs.Sums.{total}
 use Rattle.record_core.specs.Numbers.{by_number, put_number}
-use Rattle.record_core.specs.Journal.{finish_of, unfinished, AreOfTasks}
+use Rattle.record_core.specs.Journal.{finish_of, unfinished}
 use Rattle.record_core.specs.declared.rows.ActivationRow.{ActivationRow}
 use Rattle.record_core.specs.declared.rows.TaskRow.{TaskRow}
 use Rattle.record_core.proofs.TotalFacts.{total-set, total-snoc, total-append, total-member}
 use Rattle.run_model.specs.State.{Queues, queued, next_queued, first_queued}
 use Rattle.run_model.specs.Step.{all_queued, priority_of, list_or, waiters_of}
-use Rattle.run_model.proofs.ByNumber.{member_at, number_within, put_same, put_other, snoc_new, snoc_other, snoc_cases}
+use Rattle.run_model.proofs.ByNumber.{member_at, put_same, put_other, snoc_new, snoc_other, snoc_cases}
 use Rattle.run_model.proofs.LiveFacts.{read_snoc, finish_snoc, OneStarted, was_row}
 use Rattle.run_model.proofs.NumbersInvariant.{times, times_ready, not_started, Numbers}
 

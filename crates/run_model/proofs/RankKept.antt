@@ -1,8 +1,7 @@
 -- Each move keeps that what is named has a lower rank.
-use Rattle.std.proofs.Common.{◌≡◌, ◌≢◌, ◌⊎◌, ℕ, zero, suc, ◌+◌, ◌*◌, ◌<◌, ◌≤◌, cond, eqb, Bool, true, false, Option, Some, None, List, [], ◌∷◌, ◌++◌, length, slice_get, refl, sym, ◌∙◌, ap, subst, inl, inr, ⊎_elim, arith, eq-eqb}
+use Rattle.std.proofs.Common.{◌≡◌, ◌≢◌, ◌⊎◌, ℕ, suc, ◌+◌, ◌*◌, ◌<◌, ◌≤◌, cond, eqb, Option, Some, None, List, [], ◌∷◌, ◌++◌, length, refl, sym, ◌∙◌, ap, subst, inl, inr, ⊎_elim, arith, eq-eqb}
 use Rattle.std.proofs.lemmas.Bool.{cases_eq, ne_eqb}
 use Rattle.std.proofs.lemmas.Option.{none-some, same_Some}
-use Rattle.task_syntax.specs.declared.value.Priority.{Priority}
 use Rattle.task_syntax.specs.declared.program.Root.{Root as RootLine}
 use Rattle.task_syntax.specs.declared.program.Program.{Program}
 use Rattle.task_syntax.specs.declared.columns.Columns.{Columns}
@@ -17,7 +16,7 @@ use Rattle.record_core.specs.declared.rows.ActivationRow.{ActivationRow}
 use Rattle.record_core.proofs.BelowFacts.{below-member}
 use Rattle.run_model.specs.State.{Body, Outcome, Named, Queues, Run, next_queued}
 use Rattle.run_model.specs.Step.{Request, arrives, waits_or_queues, accepts, draws, with_body, with_root, root_request, at_first}
-use Rattle.run_model.specs.Move.{Notes, with_notes, RunsAt, begins, Move, RootMove}
+use Rattle.run_model.specs.Move.{with_notes, RunsAt, begins, Move, RootMove}
 use Rattle.run_model.proofs.ByNumber.{length_snoc, found_new, found_other, found_put, found_put_other, found_within, found_old, none_of_empty}
 use Rattle.run_model.proofs.NumbersInvariant.{BodyNames, IsLiveAt, Live, NumbersStand}
 use Rattle.run_model.proofs.NamesFacts.{FrameNames, RequestNames, goes_names, asks_named, renews_named, set_named, root_named}

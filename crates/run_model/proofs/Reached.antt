@@ -1,5 +1,5 @@
 -- What holds before the first root, and is kept by each move, holds at each step of each run.
-use Rattle.std.proofs.Common.{◌≡◌, ℕ, zero, suc, ◌+◌, Option, Some, None, List, [], ◌∷◌, ◌++◌, length, slice_get, refl, sym, ◌∙◌, ap, inl, inr, append_assoc, append-nil}
+use Rattle.std.proofs.Common.{◌≡◌, ℕ, zero, suc, Option, Some, None, List, [], ◌∷◌, ◌++◌, length, slice_get, refl, sym, ◌∙◌, ap, inl, inr, append_assoc, append-nil}
 use Rattle.task_syntax.specs.declared.program.Root.{Root as RootLine}
 use Rattle.task_syntax.specs.declared.program.Program.{Program}
 use Rattle.task_syntax.specs.declared.columns.Columns.{Columns}
@@ -9,7 +9,7 @@ use Rattle.record_core.specs.EndSeen.{RunPlan}
 use Rattle.record_core.specs.RootEnds.{roots_named}
 use Rattle.run_model.specs.State.{Outcome, RootWord, Named, Refused, Skipped, Run}
 use Rattle.run_model.specs.Step.{arrives, accepts, root_request, step, steps, with_root, asks_root, asks_roots, at_first, asked, first_taskless}
-use Rattle.run_model.specs.Move.{Notes, with_notes, Move, RootMove, StaysOrMoves}
+use Rattle.run_model.specs.Move.{Move, RootMove, StaysOrMoves}
 use Rattle.run_model.proofs.Traversal.{step_moves, root_moves}
 
 -- one more at the end
@@ -100,3 +100,17 @@ module _ (p : Program) (c : Columns) (plan : RunPlan) (K : Run → Type 0) where
   -- at each step of the run
   pub always : IsKept → (taken : ℕ) → K (steps p c plan.units taken (asked p plan))
   always kept taken = steps_keep kept taken (asked p plan) (asked_all kept).kept
+
+  -- what holds once all roots were asked for, and is kept by each move of a task, holds from then on
+  pub always_from : (L : Run → Type 0) → L (asked p plan) → ((r s : Run) → K r → L r → Move p c plan.units r s → L s) → IsKept → (taken : ℕ) → L (steps p c plan.units taken (asked p plan))
+  always_from L first move kept taken = go taken (asked p plan) (asked_all kept).kept first
+    where
+      go : (taken : ℕ) (r : Run) → K r → L r → L (steps p c plan.units taken r)
+      go zero r now then = then
+      go (suc taken) r now then =
+          let next = step p c plan.units r in
+          go taken next (step_keeps kept r next now (step_moves p c plan.units r)) (stays_or_moves next (step_moves p c plan.units r))
+        where
+          stays_or_moves : (s : Run) → StaysOrMoves p c plan.units r s → L s
+          stays_or_moves s (inl stays) = rw stays.0 then
+          stays_or_moves s (inr moved) = move r s now then moved

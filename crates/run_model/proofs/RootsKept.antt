@@ -1,5 +1,5 @@
 -- Each move keeps what became of the roots that were asked for, in a well-formed program.
-use Rattle.std.proofs.Common.{◌≡◌, ◌≢◌, ◌⊎◌, ℕ, zero, suc, ◌+◌, ◌<◌, ◌≤◌, Option, Some, None, List, [], ◌∷◌, ◌++◌, length, map, slice_get, refl, sym, ◌∙◌, ap, subst, inl, inr, ⊎_elim, arith}
+use Rattle.std.proofs.Common.{◌≡◌, ℕ, zero, suc, ◌<◌, ◌≤◌, Option, Some, None, List, [], ◌∷◌, ◌++◌, length, map, slice_get, refl, sym, ◌∙◌, ap, subst, ⊎_elim, arith}
 use Rattle.std.specs.Prelude.{IfSome}
 use Rattle.std.specs.List.{flat_map}
 use Rattle.std.specs.Option.{option_map, option_or}
@@ -18,14 +18,14 @@ use Rattle.task_meaning.specs.RootLaws.{root_waits, HasTask as HasOwn, NamesTask
 use Rattle.task_meaning.specs.WorthLaws.{NamesUpTo}
 use Rattle.task_meaning.specs.Worths.{Accepted, OfCall, Respawn}
 use Rattle.frame_code.specs.Words.{OfKind}
-use Rattle.record_core.specs.Numbers.{found, HasTask}
+use Rattle.record_core.specs.Numbers.{found}
 use Rattle.record_core.specs.Journal.{next_number}
 use Rattle.record_core.specs.EndSeen.{RunPlan}
 use Rattle.record_core.specs.RootEnds.{roots_named, root_passed, root_waited}
 use Rattle.record_core.specs.declared.rows.CutTag.{CutTag}
 use Rattle.run_model.specs.State.{Outcome, RootWord, Named, Refused, Skipped, Run}
 use Rattle.run_model.specs.Step.{arrives, waits_or_queues, accepts, draws, with_body, with_root, root_request, own_task, own_tasks, taskless, first_taskless, at_first}
-use Rattle.run_model.specs.Move.{with_notes, begins, Move, RootMove}
+use Rattle.run_model.specs.Move.{with_notes, Move, RootMove}
 use Rattle.run_model.proofs.ByNumber.{length_snoc}
 use Rattle.run_model.proofs.NumbersInvariant.{NumbersStand}
 use Rattle.run_model.proofs.NamesFacts.{own_named}

@@ -1,5 +1,5 @@
 -- Each step stays or moves, and each root moves.
-use Rattle.std.proofs.Common.{◌≡◌, ◌≢◌, ◌⊎◌, ℕ, ◌+◌, Bool, true, false, cond, Option, Some, None, List, slice_get, refl, sym, ◌∙◌, ap, inl, inr}
+use Rattle.std.proofs.Common.{◌≡◌, ◌≢◌, ℕ, ◌+◌, Bool, true, false, cond, Option, Some, None, List, slice_get, refl, sym, ◌∙◌, ap, inl, inr}
 use Rattle.std.proofs.lemmas.Option.{none-some, same_Some}
 use Rattle.task_syntax.specs.declared.value.Value.{Value}
 use Rattle.task_syntax.specs.declared.value.Value.TheVariants.{Number, Trapped}
@@ -23,8 +23,8 @@ use Rattle.record_core.specs.declared.rows.CutTag.TheVariants.{Limit}
 use Rattle.task_meaning.specs.Worths.{Respawn}
 use Rattle.run_model.specs.State.{Body, Outcome, Gave, WasCut, Named, Refused, Queues, Run, next_queued}
 use Rattle.run_model.specs.Placing.{pool_of, placed}
-use Rattle.run_model.specs.Step.{Request, arrives, with_body, draws, is_refused, accepts, places, with_root, priority_of, asks_with, respawns, reads, outcome_of, does, runs_line, runs_body, runs_row, goes_behind, cut_behind, is_behind, started_row, starts_next, step, step_with, has_number, first_taskless, asks_root, asks_root_with, root_request}
-use Rattle.run_model.specs.Move.{Notes, notes_of, with_notes, RunsAt, Goes, Asks, Answers, Renews, Refuses, RefusesRoot, begins, Move, RootMove, Still, StaysOrMoves, StepsMove, RootsMove}
+use Rattle.run_model.specs.Step.{Request, arrives, with_body, draws, is_refused, accepts, places, with_root, priority_of, asks_with, respawns, reads, outcome_of, does, runs_line, runs_body, runs_row, goes_behind, cut_behind, is_behind, started_row, starts_next, step_with, has_number, first_taskless, asks_root, asks_root_with, root_request}
+use Rattle.run_model.specs.Move.{Notes, with_notes, RunsAt, Goes, Asks, Answers, Renews, Refuses, RefusesRoot, begins, Move, RootMove, Still, StaysOrMoves, StepsMove, RootsMove}
 
 module _ (p : Program) (c : Columns) (units : ℕ) (r : Run) where
   -- a renewal is a further activation, or a refusal

@@ -15,6 +15,10 @@ use Rattle.run_model.specs.State.{Outcome, Gave, WasCut, RootWord, Named, Refuse
 use Rattle.run_model.specs.Placing.{used}
 use Rattle.run_model.specs.Step.{steps, asked, own_tasks}
 
+-- the state after so many steps
+abbrev pub state_at : Program → Columns → RunPlan → ℕ → Run
+state_at p c plan taken = steps p c plan.units taken (asked p plan)
+
 -- the run of the program is over in this state: it is reached in some number of steps, nothing runs, and nothing is ready
 pub record OneThreadRun (p : Program) (c : Columns) (plan : RunPlan) (end : Run) : Type 0 where
   pub taken : ℕ

@@ -1,13 +1,28 @@
 -- The laws of the run on one thread.
-use Rattle.std.specs.Prelude.{◌≡◌, ℕ, ◌≤◌, MatchOption}
+use Rattle.std.specs.Prelude.{◌≡◌, ℕ, ◌+◌, ◌<◌, ◌≤◌, Some, None, IsSome, MatchOption, length, slice_get}
+use Rattle.task_syntax.specs.Places.{Each, EachAt}
+use Rattle.task_syntax.specs.Form.{IsWellFormed}
 use Rattle.task_syntax.specs.declared.program.Program.{Program}
 use Rattle.task_syntax.specs.declared.columns.Columns.{Columns}
 use Rattle.pool_core.specs.Blocks.{BlockState}
 use Rattle.pool_core.specs.Pool.{PoolState, Gives, HasNoRoom, IsSound}
-use Rattle.record_core.specs.EndSeen.{RunPlan}
+use Rattle.task_meaning.specs.Meant.{future_at}
+use Rattle.record_core.specs.Numbers.{by_number, HasTask}
+use Rattle.record_core.specs.Journal.{AreOfTasks, AreStampedOnce, AreInOrder, CausesLead, Leads, task_count, finish_of, cause_of}
+use Rattle.record_core.specs.JournalLaws.{GrowsFrom}
+use Rattle.record_core.specs.EndSeen.{EndSeen, RunPlan}
+use Rattle.record_core.specs.EndSound.{HasNoRetry, AreOwn, IsCutAsNamed, null_ends}
+use Rattle.record_core.specs.EndFaithful.{EndFaithful}
+use Rattle.record_core.specs.declared.rows.ActivationRow.{ActivationRow}
+use Rattle.record_core.specs.declared.rows.Cause.TheVariants as cause
+use Rattle.record_core.specs.declared.rows.RootEnd.TheVariants.{Cut}
+use Rattle.record_core.specs.declared.rows.CutTag.{CutTag}
+use Rattle.record_core.specs.declared.rows.CutTag.TheVariants.{Limit}
+use Rattle.record_core.specs.declared.rows.CutFrom.TheVariants.{Host, Task}
 use Rattle.run_model.specs.State.{Run}
 use Rattle.run_model.specs.Placing.{placed}
-use Rattle.run_model.specs.End.{OneThreadRun}
+use Rattle.run_model.specs.Step.{steps}
+use Rattle.run_model.specs.End.{OneThreadRun, state_at, end_seen}
 
 -- two ends of the run of one program are the same
 abbrev pub OneEnd : Type 0
@@ -17,3 +32,44 @@ OneEnd = (p : Program) (c : Columns) (plan : RunPlan) (one other : Run) → OneT
 abbrev pub PlacesAsPoolsGive : Type 0
 PlacesAsPoolsGive = (pool : PoolState) (class : ℕ) → class ≤ 3 → IsSound pool
     → MatchOption (placed pool class) (HasNoRoom pool class) (λ (block : BlockState). (new : PoolState) × Gives pool class block new)
+
+-- Each accepted activation starts once, after its predecessor finished: a row, a stamp and a cause that stand stay through
+-- any further steps; whoever has started did so after the finish of the task that it is behind; and where the run is over
+-- all have started, and all tasks have finished.
+pub record StartsOnce : Type 0 where
+  pub stays : (p : Program) (c : Columns) (plan : RunPlan) (taken more : ℕ) → GrowsFrom (state_at p c plan taken).journal (steps p c plan.units more (state_at p c plan taken)).journal
+  pub behind : (p : Program) (c : Columns) (plan : RunPlan) (taken n u s : ℕ) (row : ActivationRow) → by_number (state_at p c plan taken).journal.rows n ≡ Some row → row.after ≡ Some u → row.start ≡ Some s
+      → (f : ℕ) × (finish_of (state_at p c plan taken).journal.tasks u ≡ Some f) × (f < s)
+  pub all_start : (p : Program) (c : Columns) (plan : RunPlan) (end : Run) → OneThreadRun p c plan end → Each end.journal.rows (λ (row : ActivationRow). IsSome row.start)
+  pub all_finish : (p : Program) (c : Columns) (plan : RunPlan) (end : Run) → OneThreadRun p c plan end → (t : ℕ) → HasTask end.journal.rows t → IsSome (finish_of end.journal.tasks t)
+
+-- what the end of any run answers of its rows, cuts and null answers
+pub record IsInOrder (p : Program) (plan : RunPlan) (e : EndSeen) : Type 0 where
+  pub beside : length e.tasks ≡ length e.rows
+  pub of_tasks : AreOfTasks e.rows
+  pub started : Each e.rows (λ (row : ActivationRow). IsSome row.start)
+  pub finished : (t : ℕ) → HasTask e.rows t → IsSome (finish_of e.tasks t)
+  pub stamped : AreStampedOnce e.rows e.tasks (length e.rows + task_count e.rows)
+  pub ordered : AreInOrder e.rows e.tasks
+  pub own : AreOwn e
+  -- a root that is cut from a task is cut from its own, whose causes lead to a refusal of this kind
+  pub cuts : (at t : ℕ) (tag : CutTag) → slice_get e.roots at ≡ Some (Cut tag (Task t)) → (future_at e.own at ≡ Some t) × Leads e.tasks tag t
+  pub causes : CausesLead e.rows e.tasks
+  pub caused : (t : ℕ) → finish_of e.tasks t ≡ None → cause_of e.tasks t ≡ cause.Clear
+  pub nulls : null_ends e ≤ e.nulls
+  pub nulls_once : HasNoRetry p → null_ends e ≡ e.nulls
+  pub as_many : length e.roots ≡ length p.roots
+  pub within : length e.rows ≤ plan.limit
+  pub limited : (t : ℕ) → cause_of e.tasks t ≡ cause.Limit → length e.rows ≡ plan.limit
+  pub limited_root : (at : ℕ) → slice_get e.roots at ≡ Some (Cut Limit Host) → length e.rows ≡ plan.limit
+
+-- whatever the program and the plan are, the end of a run is in order
+abbrev pub EndsAreInOrder : Type 0
+EndsAreInOrder = (p : Program) (c : Columns) (plan : RunPlan) (end : Run) → OneThreadRun p c plan end → IsInOrder p plan (end_seen plan end)
+
+-- of a well-formed program, it hides no cut, and skips a root exactly where it names one without a task
+abbrev pub EndsAreFaithful : Type 0
+EndsAreFaithful = (p : Program) (c : Columns) (plan : RunPlan) (end : Run) → IsWellFormed p → OneThreadRun p c plan end → EndFaithful p (end_seen plan end)
+
+abbrev pub EndsSkipAsNamed : Type 0
+EndsSkipAsNamed = (p : Program) (c : Columns) (plan : RunPlan) (end : Run) → IsWellFormed p → OneThreadRun p c plan end → EachAt (end_seen plan end).roots (IsCutAsNamed p (end_seen plan end).roots)

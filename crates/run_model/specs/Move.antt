@@ -1,5 +1,5 @@
 -- The moves of a run: what a step, and asking for a root, may do, and why a step may do nothing.
-use Rattle.std.specs.Prelude.{◌≡◌, ◌≢◌, ℕ, ◌+◌, ◌⊎◌, Bool, true, false, Option, Some, None, List, length, slice_get}
+use Rattle.std.specs.Prelude.{◌≡◌, ◌≢◌, ℕ, ◌+◌, ◌⊎◌, Bool, true, false, Option, Some, None, List, slice_get}
 use Rattle.task_syntax.specs.declared.value.Value.{Value}
 use Rattle.task_syntax.specs.declared.value.Trap.{Trap}
 use Rattle.task_syntax.specs.declared.value.Value.TheVariants.{Number, Trapped}

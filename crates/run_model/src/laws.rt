@@ -1,4 +1,4 @@
-ghost use Rattle.run_model.specs.Laws.{OneEnd, PlacesAsPoolsGive};
+ghost use Rattle.run_model.specs.Laws.{EndsAreFaithful, EndsAreInOrder, EndsSkipAsNamed, OneEnd, PlacesAsPoolsGive, StartsOnce};
 ghost use Rattle.run_model.specs.Move.{RootsMove, StepsMove};
 ghost use Rattle.run_model.specs.RuleRuns.{RuleRuns};
 ghost use Rattle.run_model.specs.ExampleRuns.{ExampleRuns};
@@ -27,4 +27,20 @@ pub fn worked_runs()
 pub fn steps_are_moves()
     ensures step { StepsMove }
     ensures root { RootsMove }
+{}
+
+/// Each accepted activation starts once, after its predecessor finished.
+pub fn starts_once()
+    ensures { StartsOnce }
+{}
+
+/// The end of a run is in order: all has started and finished, stamped once, and each cut has its cause.
+pub fn ends_are_in_order()
+    ensures { EndsAreInOrder }
+{}
+
+/// The end of a run hides no cut, and skips a root exactly where it names one without a task.
+pub fn ends_are_faithful()
+    ensures faithful { EndsAreFaithful }
+    ensures skipped { EndsSkipAsNamed }
 {}

@@ -9,4 +9,7 @@
 
 mod laws;
 
-pub use laws::{one_end, places_as_pools_give, rules_by_example, steps_are_moves, worked_runs};
+pub use laws::{
+    ends_are_faithful, ends_are_in_order, one_end, places_as_pools_give, rules_by_example,
+    starts_once, steps_are_moves, worked_runs,
+};
