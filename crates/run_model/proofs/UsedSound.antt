@@ -72,15 +72,15 @@ module _ (units place : ℕ) (b : BlockState) (bs : List BlockState) where
 
 module _ (units : ℕ) (supers : List Super) (unit_count : IsUnitCount units) (classes : (place : ℕ) (super : Super) → slice_get supers place ≡ Some super → super.class ≤ 3) where
   -- a placed block stands in its superblock, and at its bit alone
-  stands_here : (b : BlockState) (placed : IsPlaced units supers b) → stands_in units placed.place b ≡ true
+  pub stands_here : (b : BlockState) (placed : IsPlaced units supers b) → stands_in units placed.place b ≡ true
   stands_here b placed =
       let fits = classes placed.place placed.super placed.there in
       eq-eqb (b.unit / units) placed.place (ap (λ (x : BlockState). x.unit / units) placed.block_is ∙ place_of_unit units placed.super.class placed.place placed.bit unit_count fits placed.below)
 
-  is_place : (b : BlockState) (placed : IsPlaced units supers b) (place : ℕ) → stands_in units place b ≡ true → placed.place ≡ place
+  pub is_place : (b : BlockState) (placed : IsPlaced units supers b) (place : ℕ) → stands_in units place b ≡ true → placed.place ≡ place
   is_place b placed place e = sym (eqb-true (b.unit / units) placed.place (stands_here b placed)) ∙ eqb-true (b.unit / units) place e
 
-  stands_bit : (b : BlockState) (placed : IsPlaced units supers b) → stands_at units placed.place placed.bit b ≡ true
+  pub stands_bit : (b : BlockState) (placed : IsPlaced units supers b) → stands_at units placed.place placed.bit b ≡ true
   stands_bit b placed =
       and_from (stands_in units placed.place b) (nat_eq b.unit (placed.place * units + placed.bit * block_units b.class)) (stands_here b placed)
       (eq-eqb b.unit (placed.place * units + placed.bit * block_units b.class) (unit_is ∙ sym (ap (λ class. placed.place * units + placed.bit * block_units class) class_is)))
@@ -91,7 +91,7 @@ module _ (units : ℕ) (supers : List Super) (unit_count : IsUnitCount units) (c
       class_is = ap (λ (x : BlockState). x.class) placed.block_is
 
   -- a bit at which it stands is its own
-  is_bit : (b : BlockState) (placed : IsPlaced units supers b) (place k : ℕ) → stands_at units place k b ≡ true → (placed.place ≡ place) × (k ≡ placed.bit)
+  pub is_bit : (b : BlockState) (placed : IsPlaced units supers b) (place k : ℕ) → stands_at units place k b ≡ true → (placed.place ≡ place) × (k ≡ placed.bit)
   is_bit b placed place k e =
       let (in_place, at_unit) = and_parts (stands_in units place b) (nat_eq b.unit (place * units + k * block_units b.class)) e in
       let same = is_place b placed place in_place in
@@ -103,7 +103,7 @@ module _ (units : ℕ) (supers : List Super) (unit_count : IsUnitCount units) (c
       (same, bits_same placed.super.class k placed.bit fits (omega (arith, unit_is, other_unit)))
 
   -- the count is that of the bits that are set
-  counted : (place : ℕ) (bs : List BlockState) → Each bs (IsPlaced units supers) → AllDiffer bs → count_in units place bs ≡ set_count (set_in units place bs 0 units)
+  pub counted : (place : ℕ) (bs : List BlockState) → Each bs (IsPlaced units supers) → AllDiffer bs → count_in units place bs ≡ set_count (set_in units place bs 0 units)
   counted place [] all differ = sym (none_set 0 units)
     where
       none_set : (bit left : ℕ) → set_count (set_in units place [] bit left) ≡ 0
