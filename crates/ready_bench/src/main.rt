@@ -1,7 +1,8 @@
-//! `ready_bench STORE PRIORITIES THREADS ROUNDS`: how many nanoseconds so many threads take, side by side, to push an entry
-//! and take one so many times each. STORE is 0 for the store with a lock, 1 for the one without, and 2 for three plain
-//! queues that are asked in the same order. PRIORITIES is 1 for high alone, where the plain queue is one, or 3 for all in turn.
-//! With other words it prints nothing.
+//! `ready_bench STORE PRIORITIES THREADS ROUNDS`: how many nanoseconds so many threads take, side
+//! by side, to push an entry and take one so many times each. STORE is 0 for the store with a lock, 1
+//! for the one without, and 2 for plain queues. PRIORITIES is 1 for high alone, where the plain
+//! queue is one, or 3 for all in turn, where three are asked in the same order. With other words it
+//! prints nothing.
 #![tactic(auto)]
 
 mod plain;

@@ -1,6 +1,5 @@
 -- Entries and the items that stand for them.
-use Rattle.std.proofs.Common.{◌≡◌, ◌≢◌, length, List, [], ◌∷◌, ◌++◌, arith, ap, refl, suc, Option, Some, None}
-use Rattle.std.specs.Prelude.{IfNone}
+use Rattle.std.proofs.Common.{◌≡◌, ◌≢◌, length, List, [], ◌∷◌, ◌++◌, arith, ap, refl, suc}
 use Rattle.task_syntax.specs.declared.value.Priority.{Priority}
 use Rattle.ready_queues.specs.declared.entry.Entry.{Entry}
 use Rattle.ready_queues.specs.declared.entry.Item.{Item}
@@ -20,8 +19,3 @@ length-entries_at p (x ∷ xs) = ap (λ n. suc n) (length-entries_at p xs)
 -- a higher priority is another one
 pub above_differs : (p q : Priority) → IsAbove p q → p ≢ q
 above_differs p q above same = let e : rank p ≡ rank q = ap rank same in absurd (omega arith)
-
--- what follows from what holds where there is no value
-pub on_none_weaker : {X P Q : Type 0} (o : Option X) → (P → Q) → IfNone o P → IfNone o Q
-on_none_weaker None follows holds = follows holds
-on_none_weaker (Some x) follows holds = tt

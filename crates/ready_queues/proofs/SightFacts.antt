@@ -14,7 +14,7 @@ use Rattle.ready_queues.specs.declared.ruled_ready.RuledPass.{RuledPass}
 use Rattle.ready_queues.specs.Account.{Agrees, Pushes, Takes, parted}
 use Rattle.ready_queues.specs.Entries.{item_of, entries_at, IsAbove}
 use Rattle.ready_queues.specs.Moments.{Moment, WasPushed, WasTaken, WasFull, WasEmpty, InCall, EachWasEmpty}
-use Rattle.ready_queues.specs.Sights.{hand_of, room_of, PushesOne, TakesOne, SawEmpty, SawAllEmpty, IsFound, IsAgreed, Tells}
+use Rattle.ready_queues.specs.Sights.{hand_of, room_of, PushesOne, TakesOne, SawEmpty, SawEmptyAbove, SawFull, SawAllEmpty, IsNoted, IsFound, IsAgreed, Tells}
 use Rattle.ready_queues.proofs.AccountFacts.{agrees_parted}
 use Rattle.ready_queues.proofs.EntryFacts.{entries_at-snoc, length-entries_at}
 
@@ -61,7 +61,7 @@ module _ (s : RuledReady) (begun : ℕ) (now : RuledPass) (rose : now.number ≡
       (pushed, ap (λ (h : Hand). entries_at p h.held) (sym is)))
       pushed
 
-  pub told_full : (p : Priority) → now.found ≡ Full p → Held (room_of s p) (Agrees (hand_of now p)) → InCall 1 begun (Tells s now) (WasFull p)
+  pub told_full : (p : Priority) → now.found ≡ Full p → SawFull s now p → InCall 1 begun (Tells s now) (WasFull p)
   unfolding moment_at
   told_full p found (items, long, agreed) =
       let full : WasFull p (moment_at p (entries_at p items) (entries_at p items)) = (refl, length-entries_at p items ∙ long, refl) in
@@ -80,7 +80,7 @@ module _ (s : RuledReady) (begun : ℕ) (now : RuledPass) (rose : now.number ≡
       (inl (taken, ap (λ (h : Hand). entries_at p h.held) (sym is))))
       taken
 
-  pub told_higher : (entry : Entry) → now.found ≡ Took entry → ((p : Priority) → IsAbove p entry.priority → SawEmpty now p)
+  pub told_higher : (entry : Entry) → now.found ≡ Took entry → SawEmptyAbove now entry.priority
       → EachWasEmpty 1 begun (Tells s now) (λ p. IsAbove p entry.priority)
   unfolding moment_at
   told_higher entry found empty p lane above first =
@@ -97,7 +97,7 @@ module _ (s : RuledReady) (begun : ℕ) (now : RuledPass) (rose : now.number ≡
 
 -- the pass after a call keeps what the pass knew when the queues had told it, with the next number and what was found
 module _ (s : RuledReady) (old mid now : RuledPass) (found : Found) (same : mid.number ≡ old.number)
-    (noted : now ≡ record mid { number = min (mid.number + 1) (2 ^ 64 - 1); found = found }) where
+    (noted : IsNoted mid now found) where
   rose : now.number ≡ min (old.number + 1) (2 ^ 64 - 1)
   rose = ap (λ (q : RuledPass). q.number) noted ∙ ap (λ n. min (n + 1) (2 ^ 64 - 1)) same
 
@@ -117,7 +117,7 @@ module _ (s : RuledReady) (old mid now : RuledPass) (found : Found) (same : mid.
       told_push s old.number now rose entry (hand_of old entry.priority) (is_found ∙ e)
       (subst (λ (h : Hand). Pushes (hand_of old entry.priority) (item_of entry) h) (sym (hands entry.priority)) pushes.here)
 
-  pub noted_full : (p : Priority) → found ≡ Full p → Held (room_of s p) (Agrees (hand_of mid p)) → InCall 1 old.number (Tells s now) (WasFull p)
+  pub noted_full : (p : Priority) → found ≡ Full p → SawFull s mid p → InCall 1 old.number (Tells s now) (WasFull p)
   noted_full p e full =
       told_full s old.number now rose p (is_found ∙ e) (subst (λ (h : Hand). Held (room_of s p) (Agrees h)) (sym (hands p)) full)
 
@@ -126,7 +126,7 @@ module _ (s : RuledReady) (old mid now : RuledPass) (found : Found) (same : mid.
       told_take s old.number now rose entry (hand_of old entry.priority) (is_found ∙ e)
       (subst (λ (h : Hand). Takes (hand_of old entry.priority) (item_of entry) h) (sym (hands entry.priority)) takes.here)
 
-  pub noted_higher : (entry : Entry) → found ≡ Took entry → ((p : Priority) → IsAbove p entry.priority → SawEmpty mid p)
+  pub noted_higher : (entry : Entry) → found ≡ Took entry → SawEmptyAbove mid entry.priority
       → EachWasEmpty 1 old.number (Tells s now) (λ p. IsAbove p entry.priority)
   noted_higher entry e saw = told_higher s old.number now rose entry (is_found ∙ e) (λ p above. empty p (saw p above))
 

@@ -1,7 +1,8 @@
 -- What a queue pass tells of its last call: single moments, each of one queue.
-use Rattle.std.specs.Prelude.{◌≡◌, ℕ, ◌+◌, ◌-◌, ◌^◌, ◌<◌, ◌≤◌, min, List, [], ◌∷◌, ◌++◌, length}
+use Rattle.std.specs.Prelude.{◌≡◌, ℕ, ◌+◌, ◌-◌, ◌^◌, ◌<◌, ◌≤◌, min, List, [], ◌∷◌, ◌++◌, length, ⊤, Option, Some, None, Result, Ok, Err}
 use Rattle.task_syntax.specs.declared.value.Priority.{Priority}
 use Rattle.ready_queues.specs.declared.entry.Entry.{Entry}
+use Rattle.ready_queues.specs.Entries.{IsAbove}
 
 -- What one queue held at a moment, oldest first, before the step that was made then and after it. A store has queues of
 -- each priority, which are numbered from 0 (`lane`), and a queue has a capacity. Moments are numbered too.
@@ -43,6 +44,29 @@ abbrev pub EachWasEmpty : ℕ → ℕ → (Moment → Type 0) → (Priority → 
 EachWasEmpty lanes begun saw which =
     (priority : Priority) (lane : ℕ) → which priority → lane < lanes → InCall lanes begun saw (WasEmpty priority lane)
 
+-- What a push tells. The entry came to the back of the queue of its priority; or it comes back, and that queue was full.
+abbrev pub TellsPush : ℕ → ℕ → (Moment → Type 0) → Entry → Result (Unit {0}) Entry → Type 0
+TellsPush lanes begun saw entry (Ok _) = InCall lanes begun saw (WasPushed entry)
+TellsPush lanes begun saw entry (Err back) = (back ≡ entry) × InCall lanes begun saw (WasFull entry.priority)
+
+-- What a take tells. Every queue was empty; or the entry was the front of its queue, and each queue of a higher priority was empty.
+abbrev pub TellsTake : ℕ → ℕ → (Moment → Type 0) → Option Entry → Type 0
+TellsTake lanes begun saw None = EachWasEmpty lanes begun saw (λ priority. ⊤)
+TellsTake lanes begun saw (Some entry) =
+    InCall lanes begun saw (WasTaken entry) × EachWasEmpty lanes begun saw (λ priority. IsAbove priority entry.priority)
+
+-- no moment after this number is told of
+abbrev pub IsInTime : ℕ → (Moment → Type 0) → Type 0
+IsInTime number saw = (m : Moment) → saw m → m.number ≤ number
+
 -- the two are of one queue at one moment
 abbrev pub IsSameLook : Moment → Moment → Type 0
 IsSameLook m n = (m.number ≡ n.number) × (m.priority ≡ n.priority) × (m.lane ≡ n.lane)
+
+-- the two hold as many entries
+abbrev pub AsMany : Moment → Moment → Type 0
+AsMany m n = (length m.before ≡ length n.before) × (length m.after ≡ length n.after)
+
+-- of one queue at one moment one number of entries is told
+abbrev pub IsConsistent : (Moment → Type 0) → Type 0
+IsConsistent saw = (m : Moment) (n : Moment) → saw m → saw n → IsSameLook m n → AsMany m n

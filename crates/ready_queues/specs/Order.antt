@@ -1,5 +1,5 @@
 -- What two takes, one after the other, tell of an entry.
-use Rattle.std.specs.Prelude.{◌≡◌, ℕ, List, [], Option, Some, None, ⊤}
+use Rattle.std.specs.Prelude.{ℕ, Option, Some, None, ⊤}
 use Rattle.ready_queues.specs.declared.entry.Entry.{Entry}
 use Rattle.ready_queues.specs.Entries.{IsAbove}
 use Rattle.ready_queues.specs.Moments.{Moment, WasTaken, WasEmpty, Rose}
@@ -15,3 +15,8 @@ abbrev pub CameBetween : {P : Type 0} → (P → Moment → Type 0) → ℕ → 
 CameBetween {P} saw begun now entry =
     (then : P) × (m : Moment) × (n : Moment) × saw then m × saw now n × Rose begun m.number × Rose m.number n.number
     × WasEmpty n.priority n.lane m × WasTaken entry n
+
+-- a second answer that overtakes the first was not there all the time
+abbrev pub KeepsOrder : {P : Type 0} → (P → Moment → Type 0) → ℕ → P → Option Entry → Option Entry → Type 0
+KeepsOrder saw begun now first None = ⊤
+KeepsOrder saw begun now first (Some second) = Overtakes first second → CameBetween saw begun now second

@@ -1,5 +1,5 @@
 -- Laws of what a pass of the store without a lock tells.
-use Rattle.std.specs.Prelude.{◌≡◌, ◌≤◌, length, List, [], ◌∷◌, ◌++◌, true}
+use Rattle.std.specs.Prelude.{◌≡◌, length, List, [], ◌∷◌, ◌++◌, true}
 use Rattle.std.proofs.Common.{arith, ap, sym, ◌∙◌, subst, inl, inr}
 use Rattle.task_syntax.specs.declared.value.Priority.{Priority}
 use Rattle.ready_queues.specs.declared.entry.Entry.{Entry}
@@ -11,20 +11,16 @@ use Rattle.ready_queues.specs.declared.ruled_ready.RuledReady.{RuledReady}
 use Rattle.ready_queues.specs.declared.ruled_ready.RuledPass.{RuledPass}
 use Rattle.ready_queues.specs.Account.{Agrees}
 use Rattle.ready_queues.specs.Entries.{entries_at, rank, IsAbove}
-use Rattle.ready_queues.specs.Moments.{Moment, IsSameLook}
+use Rattle.ready_queues.specs.Moments.{Moment, AsMany, IsInTime, IsConsistent}
 use Rattle.ready_queues.specs.Sights.{hand_of, room_of, IsFound, Tells}
 
 -- the only pass of a queue knows what it holds: what it pushed is what it took, and then that
 abbrev pub SoleKnows : Type 0
 SoleKnows = (hand : Hand) (items : List Item) → Agrees hand items → hand.alone ≡ true → hand.pushed ≡ hand.took ++ items
 
--- a moment that is told of has the pass's number
-pub told_in_time : (s : RuledReady) (q : RuledPass) (m : Moment) → Tells s q m → m.number ≤ q.number
+-- no moment after the pass's number is told of
+pub told_in_time : (s : RuledReady) (q : RuledPass) → IsInTime q.number (Tells s q)
 told_in_time s q m told = omega (arith, told.number)
-
--- two moments hold as many entries
-abbrev pub AsMany : Moment → Moment → Type 0
-AsMany m n = (length m.before ≡ length n.before) × (length m.after ≡ length n.after)
 
 module _ (v : Hand) (m n : Moment) (priority : m.priority ≡ n.priority) (room : m.capacity ≡ n.capacity) where
   -- two lists that are the same items, at priorities that are the same
@@ -59,7 +55,7 @@ module _ (v : Hand) (m n : Moment) (priority : m.priority ≡ n.priority) (room 
   found_alike Dry told again = (ap length (told.0 ∙ sym again.0), ap length (told.1 ∙ sym again.1))
 
 -- of one queue at one moment one number of entries is told
-pub told_alike : (s : RuledReady) (q : RuledPass) (m n : Moment) → Tells s q m → Tells s q n → IsSameLook m n → AsMany m n
+pub told_alike : (s : RuledReady) (q : RuledPass) → IsConsistent (Tells s q)
 told_alike s q m n told again same =
     found_alike (hand_of q m.priority) m n same.1 (told.capacity ∙ ap (room_of s) same.1 ∙ sym again.capacity) q.found told.found
     (subst (λ p. IsFound q.found (hand_of q p) n) (sym same.1) again.found)

@@ -1,5 +1,6 @@
 -- What a pass of the store without a lock knows of its queues, and what it tells of its last call.
-use Rattle.std.specs.Prelude.{◌≡◌, ◌≢◌, ◌⊎◌, ℕ, List, []}
+use Rattle.std.specs.Prelude.{◌≡◌, ◌≢◌, ◌⊎◌, ℕ, ◌+◌, ◌-◌, ◌^◌, min, List, []}
+use Rattle.crossbeam_queue.specs.Fifo.{Held}
 use Rattle.crossbeam_queue.specs.Passes.{view, IsPassOf, ruled_capacity}
 use Rattle.task_syntax.specs.declared.value.Priority.{Priority}
 use Rattle.task_syntax.specs.declared.value.Priority.TheVariants.{High, Regular, Low}
@@ -58,6 +59,18 @@ TakesOne entry old new = StepsAt entry.priority old new (λ v w. Takes v (item_o
 -- the queue of a priority was seen to be empty
 abbrev pub SawEmpty : RuledPass → Priority → Type 0
 SawEmpty q priority = Agrees (hand_of q priority) []
+
+-- each queue of a higher priority was seen to be empty
+abbrev pub SawEmptyAbove : RuledPass → Priority → Type 0
+SawEmptyAbove q priority = (higher : Priority) → IsAbove higher priority → SawEmpty q higher
+
+-- the queue of a priority was seen to be full
+abbrev pub SawFull : RuledReady → RuledPass → Priority → Type 0
+SawFull s q priority = Held (room_of s priority) (Agrees (hand_of q priority))
+
+-- the pass has the next number and keeps what was found, and is as it was else
+abbrev pub IsNoted : RuledPass → RuledPass → Found → Type 0
+IsNoted old new found = new ≡ record old { number = min (old.number + 1) (2 ^ 64 - 1); found = found }
 
 -- each queue was seen to be empty
 pub record SawAllEmpty (q : RuledPass) : Type 0 where

@@ -12,8 +12,9 @@ use std::alloc::{AllocError, Global};
 use std::collections::LinkedList;
 use std::sync::Wait;
 
-// What a pass has done at a queue: what it pushed and what it took, in order, and what the queue held before its last
-// step. The first pass of a queue is alone until it is split. No value of it is made.
+// What a pass has done at a queue: what it pushed and what it took, in order, and what the queue
+// held before its last step. The first pass of a queue is alone until it is split. No value of it
+// is made.
 pub struct Hand {
     alone: bool,
     pushed: LinkedList<Item>,
@@ -83,7 +84,8 @@ pub(crate) fn empty(alloc: Global, capacity: usize) -> Result<(Queue, QueuePass)
     Queue::ruled(alloc, capacity)
 }
 
-// Puts an item at the back of the queue. Where that was full at a moment of the call the answer is false.
+// Puts an item at the back of the queue. The answer is false where that was full at a moment of the
+// call.
 pub(crate) fn put<R: Wait>(rt: &R, queue: &Queue, pass: &mut QueuePass, item: Item) -> bool
     requires { IsPassOf queue.now pass.old }
     ensures pass { IsPassOf queue.now pass.new }

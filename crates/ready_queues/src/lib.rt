@@ -1,8 +1,10 @@
-//! What is ready to run, in a store that workers share: three priorities, first in first out in each.
+//! What is ready to run, in a store that workers share: three priorities, first in first out in
+//! each.
 //!
-//! `ReadyStore` is what a store promises. `MutexReady` keeps its queues under a lock, `RuledReady` has none. What a caller
-//! learns of a shared queue it learns of single moments: `specs/Moments.antt` says what a moment tells, `specs/Held.antt`
-//! what the queues under a lock become, `specs/Account.antt` which rule the queues without a lock keep, and
+//! `ReadyStore` is what a store promises. `MutexReady` keeps its queues under a lock, `RuledReady`
+//! has none. What a caller learns of a shared queue it learns of single moments:
+//! `specs/Moments.antt` says what a moment tells, `specs/Held.antt` what the queues under a lock
+//! become, `specs/Account.antt` which rule the queues without a lock keep, and
 //! `specs/Sights.antt` what their passes tell.
 #![tactic(auto)]
 

@@ -1,13 +1,13 @@
-ghost use Rattle.std.specs.Prelude.{⊤, IfSome, IfNone};
-ghost use Rattle.ready_queues.specs.Moments.{EachWasEmpty};
-ghost use Rattle.ready_queues.specs.Order.{Overtakes, CameBetween};
+ghost use Rattle.ready_queues.specs.Moments.{TellsTake};
+ghost use Rattle.ready_queues.specs.Order.{KeepsOrder};
 
 use crate::entry::Entry;
 use crate::store::ReadyStore;
 use std::sync::Wait;
 
-/// Takes twice, from any store. A second entry of a higher priority than the first, and one after no entry, was not there
-/// all the time: its queue was empty at a moment of the first call.
+/// Takes twice, from any store. An entry that comes second though it is of a higher priority than
+/// the first, or after none, was not there all the time: its queue was empty at a moment of the
+/// first call.
 pub fn take_twice<Q: ReadyStore, R: Wait>(
     store: &Q,
     rt: &R,
@@ -15,8 +15,9 @@ pub fn take_twice<Q: ReadyStore, R: Wait>(
 ) -> (Option<Entry>, Option<Entry>)
     requires { Q.is_pass store.now qpass.old }
     ensures pass { Q.is_pass store.now qpass.new }
-    ensures order { IfSome result.1 (λ second. Overtakes result.0 second → CameBetween (Q.saw store.now) (Q.number qpass.old) qpass.new second) }
-    ensures none { IfNone result.1 (EachWasEmpty (Q.lanes store.now) (Q.number qpass.old) (Q.saw store.now qpass.new) (λ p. ⊤)) }
+    ensures order { KeepsOrder (Q.saw store.now) (Q.number qpass.old) qpass.new result.0 result.1 }
+    ensures last { TellsTake (Q.lanes store.now) (Q.number qpass.old)
+        (Q.saw store.now qpass.new) result.1 }
 {
     let first = store.take(rt, qpass);
     let second = store.take(rt, qpass);

@@ -1,11 +1,8 @@
 //! A store with three queues and no lock.
-ghost use Rattle.std.specs.Prelude.{◌≡◌, ◌+◌, ◌-◌, ◌^◌, ◌<◌, ◌≤◌, min, IfOk, IfErr, IfSome, IfNone, OnOk, OnErr};
+ghost use Rattle.std.specs.Prelude.{◌≡◌, ◌<◌, ◌≤◌, IfOk, IfSome, IfNone, OnOk, OnErr};
 ghost use Rattle.std.specs.Bool.{OnTrue, OnFalse};
-ghost use Rattle.crossbeam_queue.specs.Fifo.{Held};
-ghost use Rattle.ready_queues.specs.Account.{Agrees};
-ghost use Rattle.ready_queues.specs.Entries.{IsAbove};
 ghost use Rattle.ready_queues.specs.SightLaws.{SoleKnows};
-ghost use Rattle.ready_queues.specs.Sights.{hand_of, room_of, IsPass, IsFirst, SameHands, PushesOne, TakesOne, SawEmpty, SawAllEmpty};
+ghost use Rattle.ready_queues.specs.Sights.{hand_of, room_of, IsPass, IsFirst, IsNoted, SameHands, PushesOne, TakesOne, SawFull, SawEmptyAbove, SawAllEmpty};
 
 use crate::account::{Queue, QueuePass, another, empty, get, put};
 use crate::entry::{Entry, Item};
@@ -32,7 +29,8 @@ pub struct RuledReady {
     low: Queue,
 }
 
-/// A pass of a `RuledReady`. What it pushed and took exists in proofs alone; it keeps what its last call found.
+/// A pass of a `RuledReady`. It keeps what its last call found; what it pushed and took exists in
+/// proofs alone.
 #[derive(Drop)]
 pub struct RuledPass {
     high: QueuePass,
@@ -45,7 +43,7 @@ pub struct RuledPass {
 impl RuledPass {
     // Keeps what a call found.
     fn note(&mut self, found: Found)
-        ensures { self.new ≡ record self.old { number = min (self.old.number + 1) (2 ^ 64 - 1); found = found } }
+        ensures { IsNoted self.old self.new found }
     {
         self.number = self.number.saturating_add(1);
         self.found = found;
@@ -72,14 +70,15 @@ impl RuledReady {
         Ok((RuledReady { high, regular, low }, pass))
     }
 
-    // Puts an entry at the back of the queue of its priority. Where that was full at a moment of the call the answer is false.
+    // Puts an entry at the back of the queue of its priority. The answer is false where that was
+    // full at a moment of the call.
     fn put<R: Wait>(&self, rt: &R, qpass: &mut RuledPass, entry: Entry) -> bool
         requires { IsPass self.now qpass.old }
         ensures pass { IsPass self.now qpass.new }
         ensures number { qpass.new.number ≡ qpass.old.number }
         ensures put { OnTrue result (PushesOne entry qpass.old qpass.new) }
         ensures same { OnFalse result (SameHands qpass.old qpass.new) }
-        ensures full { OnFalse result (Held (room_of self.now entry.priority) (Agrees (hand_of qpass.new entry.priority))) }
+        ensures full { OnFalse result (SawFull self.now qpass.new entry.priority) }
     {
         let item = Item::of(entry);
         match entry.priority {
@@ -95,7 +94,7 @@ impl RuledReady {
         ensures pass { IsPass self.now qpass.new }
         ensures number { qpass.new.number ≡ qpass.old.number }
         ensures took { IfSome result (λ entry. TakesOne entry qpass.old qpass.new) }
-        ensures higher { IfSome result (λ entry. (p : Priority) → IsAbove p entry.priority → SawEmpty qpass.new p) }
+        ensures higher { IfSome result (λ entry. SawEmptyAbove qpass.new entry.priority) }
         ensures same { IfNone result (SameHands qpass.old qpass.new) }
         ensures dry { IfNone result (SawAllEmpty qpass.new) }
     {
@@ -115,7 +114,7 @@ impl RuledReady {
 impl ReadyStore for RuledReady {
     ghost use Rattle.std.specs.Prelude.{⊤};
     ghost use Rattle.ready_queues.specs.Account.{parted, new_hand};
-    ghost use Rattle.ready_queues.specs.Moments.{Moment, WasPushed, WasTaken, WasFull, Rose, InCall, EachWasEmpty};
+    ghost use Rattle.ready_queues.specs.Moments.{Moment, Rose, TellsPush, TellsTake};
     ghost use Rattle.ready_queues.specs.Sights.{Tells};
     ghost use Rattle.ready_queues.specs.SightLaws.{told_in_time, told_alike};
 
@@ -135,9 +134,7 @@ impl ReadyStore for RuledReady {
         requires { IsPass self.now qpass.old }
         ensures pass { IsPass self.now qpass.new }
         ensures number { Rose qpass.old.number qpass.new.number }
-        ensures ok { OnOk result (InCall 1 qpass.old.number (Tells self.now qpass.new) (WasPushed entry)) }
-        ensures same { IfErr result (λ back. back ≡ entry) }
-        ensures full { OnErr result (InCall 1 qpass.old.number (Tells self.now qpass.new) (WasFull entry.priority)) }
+        ensures told { TellsPush 1 qpass.old.number (Tells self.now qpass.new) entry result }
 
         // What the pass knows of all its calls.
         ensures pushed { OnOk result (PushesOne entry qpass.old qpass.new) }
@@ -157,9 +154,7 @@ impl ReadyStore for RuledReady {
         requires { IsPass self.now qpass.old }
         ensures pass { IsPass self.now qpass.new }
         ensures number { Rose qpass.old.number qpass.new.number }
-        ensures front { IfSome result (λ entry. InCall 1 qpass.old.number (Tells self.now qpass.new) (WasTaken entry)) }
-        ensures higher { IfSome result (λ entry. EachWasEmpty 1 qpass.old.number (Tells self.now qpass.new) (λ p. IsAbove p entry.priority)) }
-        ensures none { IfNone result (EachWasEmpty 1 qpass.old.number (Tells self.now qpass.new) (λ p. ⊤)) }
+        ensures told { TellsTake 1 qpass.old.number (Tells self.now qpass.new) result }
 
         // What the pass knows of all its calls.
         ensures took { IfSome result (λ entry. TakesOne entry qpass.old qpass.new) }
@@ -203,7 +198,8 @@ impl ReadyStore for RuledReady {
     ghost agrees = { told_alike };
 }
 
-/// The only pass of a queue knows what the queue holds: what it pushed is what it took, and then that.
+/// The only pass of a queue knows what the queue holds: what it pushed is what it took, and then
+/// what is held.
 pub fn sole_knows()
     ensures { SoleKnows }
 {}

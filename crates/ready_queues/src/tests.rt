@@ -13,7 +13,8 @@ fn ready(unit: u32, number: u32, priority: Priority) -> Entry {
     }
 }
 
-// The answers of a store with one place for each priority: to three pushes, three takes and two takes at once.
+// The answers of a store with one place for each priority: to three pushes, two takes at once and
+// one more.
 fn answers<Q: ReadyStore, R: Wait>(
     rt: &R,
     store: &Q,

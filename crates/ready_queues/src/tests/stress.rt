@@ -1,4 +1,5 @@
-//! Four threads and two million entries. Threads that push give the numbers from 0 on, with the priorities in turn.
+//! Four threads and two million entries. Threads that push give the numbers from 0 on, with the
+//! priorities in turn.
 use super::ready;
 use crate::{Entry, MutexReady, ReadyStore, RuledReady};
 use std::alloc::{AllocError, Global};
@@ -55,8 +56,8 @@ fn take_one<Q: ReadyStore, R: Wait>(rt: &R, store: &Q, qpass: &mut Q::QPass) -> 
     unreachable!()
 }
 
-// What one thread took: how often each entry, with the units one after the other, and whether the numbers of each unit
-// and priority rose.
+// What one thread took: how often each entry, with the units one after the other, and whether the
+// numbers of each unit and priority rose.
 #[derive(Drop)]
 struct Taken {
     share: u32,
@@ -178,7 +179,8 @@ fn take_both<Q: ReadyStore, R: Threads + Wait + Sync>(
     )
 }
 
-// Three threads push, and one takes: true where it took each entry once, and those of each thread and priority in order.
+// Three threads push, and one takes: true where it took each entry once, and those of each thread
+// and priority in order.
 fn three_to_one<Q: ReadyStore, R: Threads + Wait + Sync>(
     rt: &R,
     store: &Q,
