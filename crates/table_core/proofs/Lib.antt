@@ -1,0 +1,3 @@
+pub mod ListFacts
+pub mod AddressFacts
+pub mod Rule

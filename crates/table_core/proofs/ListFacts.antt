@@ -1,0 +1,118 @@
+-- Lists of which one member changes, and members that are dropped.
+use Rattle.std.proofs.Common.{◌≡◌, ◌≢◌, ◌∙◌, ◌⊎◌, inl, inr, ℕ, zero, suc, ◌+◌, ◌<◌, ◌≤◌, Bool, true, false, cond, ◌==◌, Option, Some, None, List, [], ◌∷◌, ◌++◌, map, length, refl, sym, ap, subst, true≢false, arith}
+use mathlib.Core.Option as maybe
+use lib.ListN.{get_elem?}
+use Rattle.std.specs.Prelude.{slice_get, slice_set}
+use Rattle.std.proofs.lemmas.Bool.{eq-eqb, eqb-true, cases_eq}
+use Rattle.record_core.specs.Sums.{total}
+use Rattle.record_core.proofs.TotalFacts.{total-append}
+use Rattle.table_core.specs.Lists.{At, Has, Each, one_if, hit, hit3, dropped}
+
+module _ {A : Type 0} where
+  none_at : (x : A) → None ≡ Some x → ⊥
+  none_at x e = cc
+
+  pub same_some : (x y : A) → Some x ≡ Some y → x ≡ y
+  same_some x y e = cc
+
+  -- a list has a member at a position in the words of the table's base crate, and in ours
+  pub found : (l : List A) (k : ℕ) (x : A) → get_elem? l k ≡ maybe.some x → At l k x
+  found [] k x e = absurd (maybe.some-ne-none x (sym e))
+  found (y ∷ l) zero x e = ap Some (maybe.some-injective y x e)
+  found (y ∷ l) (suc k) x e = found l k x e
+
+  -- the member that was written
+  pub set_here : (l : List A) (k : ℕ) (x y : A) → At l k x → At (slice_set l k y) k y
+  set_here [] k x y at = absurd (none_at x at)
+  set_here (z ∷ l) zero x y at = refl
+  set_here (z ∷ l) (suc k) x y at = set_here l k x y at
+
+  -- a member of a list in which one was written is that one, or stood there before
+  pub set_cases : (l : List A) (k j : ℕ) (x y : A) → At (slice_set l k x) j y → ((j ≡ k) × (y ≡ x)) ⊎ ((j ≢ k) × At l j y)
+  set_cases [] k j x y at = absurd (none_at y at)
+  set_cases (z ∷ l) zero zero x y at = inl (refl, sym (same_some x y at))
+  set_cases (z ∷ l) zero (suc j) x y at = inr ((λ e. omega arith), at)
+  set_cases (z ∷ l) (suc k) zero x y at = inr ((λ e. omega arith), at)
+  set_cases (z ∷ l) (suc k) (suc j) x y at = elim (set_cases l k j x y at) [
+    | inl t ↦ inl (ap suc t.0, t.1)
+    | inr t ↦ let apart = t.0 in inr ((λ e. apart (omega arith)), t.1)
+  ]
+
+  pub set_again : (l : List A) (k : ℕ) (x : A) → At l k x → slice_set l k x ≡ l
+  set_again [] k x at = absurd (none_at x at)
+  set_again (y ∷ l) zero x at = ap (λ (z : A). z ∷ l) (sym (same_some y x at))
+  set_again (y ∷ l) (suc k) x at = ap (λ (r : List A). y ∷ r) (set_again l k x at)
+
+  -- a property of each member
+  pub each-set : (P : A → Type 0) (l : List A) (k : ℕ) (y : A) → Each P l → P y → Each P (slice_set l k y)
+  each-set P l k y all new j x at = elim (set_cases l k j y x at) [
+    | inl t ↦ subst P (sym t.1) new
+    | inr t ↦ all j x t.1
+  ]
+
+  pub append_cases : (l more : List A) (k : ℕ) (x : A) → At (l ++ more) k x → Has x l ⊎ Has x more
+  append_cases [] more k x at = inr (k, at)
+  append_cases (y ∷ l) more zero x at = inl (0, at)
+  append_cases (y ∷ l) more (suc k) x at = elim (append_cases l more k x at) [ inl t ↦ inl (suc t.0, t.1) | inr t ↦ inr t ]
+
+  pub each-append : (P : A → Type 0) (l more : List A) → Each P l → Each P more → Each P (l ++ more)
+  each-append P l more all all' k x at = elim (append_cases l more k x at) [ inl t ↦ all t.0 x t.1 | inr t ↦ all' t.0 x t.1 ]
+
+  pub each-cons : (P : A → Type 0) (x : A) (l : List A) → P x → Each P l → Each P (x ∷ l)
+  each-cons P x l first all zero y at = subst P (same_some x y at) first
+  each-cons P x l first all (suc k) y at = all k y at
+
+  pub each-tail : (P : A → Type 0) (x : A) (l : List A) → Each P (x ∷ l) → Each P l
+  each-tail P x l all k y at = all (suc k) y at
+
+  -- what is left after a drop was there before
+  pub each-dropped : (P : A → Type 0) (p : A → Bool) (l : List A) → Each P l → Each P (dropped p l)
+  each-dropped P p [] all = all
+  each-dropped P p (x ∷ l) all = by (p x) (each-dropped P p l (each-tail P x l all))
+    where
+      by : (b : Bool) → Each P (dropped p l) → Each P (cond b l (x ∷ dropped p l))
+      by true rest = each-tail P x l all
+      by false rest = each-cons P x (dropped p l) (all 0 x refl) rest
+
+  -- a member that passes is dropped: its weight, which all that pass have, is gone
+  pub total-dropped : (f : A → ℕ) (p : A → Bool) (l : List A) (n : ℕ) → ((y : A) → p y ≡ true → f y ≡ n) → (x : A) → Has x l → p x ≡ true
+      → total f (dropped p l) + n ≡ total f l
+  total-dropped f p [] n same x has passes = absurd (none_at x has.1)
+  total-dropped f p (y ∷ l) n same x has passes = by (p y) refl (λ k at. total-dropped f p l n same x (k, at) passes) has.0 has.1
+    where
+      by : (b : Bool) → p y ≡ b → ((k : ℕ) → At l k x → total f (dropped p l) + n ≡ total f l) → (k : ℕ) → At (y ∷ l) k x
+          → total f (cond b l (y ∷ dropped p l)) + n ≡ f y + total f l
+      by true e rest k at = omega (arith, same y e)
+      by false e rest zero at = absurd (true≢false (sym passes ∙ ap p (sym (same_some y x at)) ∙ e))
+      by false e rest (suc k) at = omega (arith, rest k at)
+
+  pub length-dropped : (p : A → Bool) (l : List A) → length (dropped p l) ≤ length l
+  length-dropped p [] = omega arith
+  length-dropped p (x ∷ l) = by (p x) (length-dropped p l)
+    where
+      by : (b : Bool) → length (dropped p l) ≤ length l → length (cond b l (x ∷ dropped p l)) ≤ suc (length l)
+      by true rest = omega arith
+      by false rest = omega arith
+
+  pub at_map : {B : Type 0} (f : A → B) (l : List A) (k : ℕ) (x : A) → At l k x → At (map f l) k (f x)
+  at_map f [] k x at = absurd (none_at x at)
+  at_map f (y ∷ l) zero x at = ap (λ (z : A). Some (f z)) (same_some y x at)
+  at_map f (y ∷ l) (suc k) x at = at_map f l k x at
+
+  -- a member of a mapped list is of a member
+  pub map_at : {B : Type 0} (f : A → B) (l : List A) (k : ℕ) (z : B) → At (map f l) k z → (x : A) × At l k x × (f x ≡ z)
+  map_at {B} f [] k z at = let no : None ≡ Some z → ⊥ = λ e. cc in absurd (no at)
+  map_at {B} f (y ∷ l) zero z at = let same : f y ≡ z = cc in (y, refl, same)
+  map_at f (y ∷ l) (suc k) z at = map_at f l k z at
+
+-- which of two pairs, and of two triples, agree
+pub hit-same : (i c : ℕ) → hit i c i c ≡ 1
+hit-same i c = ap (λ (b : Bool). cond b (cond (c == c) 1 0) 0) (eq-eqb i i refl) ∙ ap (λ (b : Bool). cond b 1 0) (eq-eqb c c refl)
+
+pub hit-le : (i c j k : ℕ) → hit i c j k ≤ 1
+hit-le i c j k = by (i == j) (c == k)
+  where
+    by : (a b : Bool) → cond a (cond b 1 0) 0 ≤ 1
+    by true true = omega arith
+    by true false = omega arith
+    by false b = omega arith

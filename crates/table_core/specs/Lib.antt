@@ -1,0 +1,11 @@
+pub mod Addresses
+pub mod Lists
+pub mod Asking
+pub mod Holdings
+pub mod Story
+pub mod Pool
+pub mod Wins
+pub mod Bounds
+pub mod Views
+pub mod Parts
+pub mod Steps

@@ -1,0 +1,90 @@
+-- The rule that holds between any two steps. It is a list of parts; each reads some kinds of words, some lists of the story,
+-- and something of each view.
+use Rattle.std.specs.Prelude.{◌≡◌, ℕ, ◌+◌, ◌^◌, ◌<◌, List, map, length, slice_get, slice_set, Some, cond, ◌==◌}
+use Rattle.record_core.specs.Sums.{total}
+use Rattle.table_core.specs.Addresses.{Addr, Mem, super, state, put, words_of, mem_of}
+use Rattle.table_core.specs.Lists.{Each, one_if}
+use Rattle.table_core.specs.Holdings.{Block, Made}
+use Rattle.table_core.specs.Story.{Story, tasks_in}
+use Rattle.table_core.specs.Pool.{Hand, PoolSound, bit_in}
+use Rattle.table_core.specs.Wins.{Won, WinsSound, Looked, LooksSound, EversSound}
+use Rattle.table_core.specs.Bounds.{Held, IsBounded}
+use Rattle.table_core.specs.declared.setup.Setup.{Setup}
+use Rattle.table_core.specs.declared.view.View.{View}
+
+pub data Part : Type 0 where
+  -- words, bits, records and hands agree
+  pool : Part
+  -- the passes are at most 4,096
+  shares : Part
+  -- no pass has too much
+  bounds : Part
+  -- wins and settles make the counts
+  wins : Part
+  -- a look is no older than it says
+  looks : Part
+  -- each reservation is accounted for
+  evers : Part
+
+-- what a part reads of a view
+abbrev pub Seen : Part → Type 0
+Seen pool = Hand
+Seen shares = ℕ
+Seen bounds = Held
+Seen wins = Won
+Seen looks = Looked
+Seen evers = ℕ
+
+abbrev pub fresh_in : List Block → ℕ
+fresh_in = total (λ b. one_if b.fresh)
+
+abbrev pub unnumbered : List Made → ℕ
+unnumbered = total (λ r. cond (r.number == 0) 1 0)
+
+-- all that leaves a pass not idle but for its references, and the turn
+abbrev pub things_of : View → ℕ
+things_of v = length v.reserved + length v.blocks + length v.debts + length v.made + length v.waiting + length v.runs + length v.done
+    + length v.retiring + length v.chains + length v.drawn + length v.turn + length v.unwritten + v.may_draw
+
+abbrev pub seen : (q : Part) → View → Seen q
+seen pool v = record { reserved = v.reserved; blocks = v.blocks; debts = v.debts }
+seen shares v = v.parts
+seen bounds v = record {
+  parts = v.parts;
+  references = length v.futures;
+  things = things_of v;
+  may_draw = v.may_draw;
+  taken = length v.taken;
+  drawn = length v.drawn;
+  calls = length v.calls;
+}
+seen wins v = record { wins = v.wins; settles = v.settles }
+seen looks v = record { wins = v.wins; looks = v.looks }
+seen evers v = length v.reserved + fresh_in v.blocks + unnumbered v.made + v.cleared
+
+module _ (g : Setup) where
+  -- what a part says
+  abbrev pub Says : (q : Part) → Story → Mem → List (Seen q) → Type 0
+  Says pool s m vs = PoolSound g.plan (λ i. m (super i)) (bit_in m) (λ u. m (state u)) vs
+  Says shares s m vs = total (λ n. n) vs ≡ 4096
+  Says bounds s m vs = Each IsBounded vs
+  Says wins s m vs = WinsSound g.plan (λ i. m (super i)) vs
+  Says looks s m vs = LooksSound g.plan (λ i. m (super i)) vs
+  Says evers s m vs = EversSound g.plan (λ i. m (super i)) (tasks_in s.calls) vs
+
+  -- all parts, of one story
+  abbrev pub AllSay : Story → Mem → List View → Type 0
+  AllSay s m vs = (q : Part) → Says q s m (map (seen q) vs)
+
+  abbrev pub Lawful : Mem → List View → Type 0
+  Lawful m vs = (s : Story) × AllSay s m vs
+
+  -- the same of the words as they lie: this is the rule
+  abbrev pub Holds : List ℕ → List View → Type 0
+  Holds ws vs = (length ws ≡ words_of g.plan) × Lawful (mem_of g.plan ws) vs
+
+  -- A step that writes f of what it finds at one word may be made: whatever the table is then, some new view of the pass keeps
+  -- the rule and is what the step tells.
+  abbrev pub Keeps : ℕ → View → Addr → (ℕ → ℕ) → (ℕ → View → Type 0) → Type 0
+  Keeps id v a f told = (m : Mem) (vs : List View) (s : Story) → AllSay s m vs → slice_get vs id ≡ Some v → m a < 18446744073709551616
+      → (w : View) × Lawful (put m a (f (m a))) (slice_set vs id w) × told (m a) w × (w.parts ≡ v.parts)

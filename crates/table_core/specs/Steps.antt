@@ -1,0 +1,11 @@
+-- What a step that may fail tells of the view.
+use Rattle.std.specs.Prelude.{◌≡◌, ℕ, ◌/◌, ◌%◌, ◌^◌}
+use Rattle.table_core.specs.declared.view.View.{View}
+
+-- a compare and exchange: the new view where it found the word that it expected, and else the old one
+abbrev pub Tried : ℕ → View → View → ℕ → View → Type 0
+Tried expected old won found new = (found ≡ expected → new ≡ won) × (¬ (found ≡ expected) → new ≡ old)
+
+-- a bit of a word is set: the new view where it was clear, and else the old one
+abbrev pub WonBit : ℕ → View → View → ℕ → View → Type 0
+WonBit b old won found new = (found / 2 ^ (b % 64) % 2 ≡ 0 → new ≡ won) × (found / 2 ^ (b % 64) % 2 ≡ 1 → new ≡ old)
