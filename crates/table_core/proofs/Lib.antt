@@ -1,3 +1,5 @@
 pub mod ListFacts
 pub mod AddressFacts
 pub mod Rule
+pub mod PoolFacts
+pub mod PoolSteps

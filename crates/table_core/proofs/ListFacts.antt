@@ -1,12 +1,14 @@
 -- Lists of which one member changes, and members that are dropped.
-use Rattle.std.proofs.Common.{◌≡◌, ◌≢◌, ◌∙◌, ◌⊎◌, inl, inr, ℕ, zero, suc, ◌+◌, ◌<◌, ◌≤◌, Bool, true, false, cond, ◌==◌, Option, Some, None, List, [], ◌∷◌, ◌++◌, map, length, refl, sym, ap, subst, true≢false, arith}
+use Rattle.std.proofs.Common.{◌≡◌, ◌≢◌, ◌∙◌, ◌⊎◌, inl, inr, ℕ, zero, suc, ◌+◌, ◌<◌, ◌≤◌, Bool, true, false, cond, ◌==◌, ◌&&◌, Option, Some, None, List, [], ◌∷◌, ◌++◌, map, length, refl, sym, ap, subst, true≢false, arith}
 use mathlib.Core.Option as maybe
 use lib.ListN.{get_elem?}
 use Rattle.std.specs.Prelude.{slice_get, slice_set}
-use Rattle.std.proofs.lemmas.Bool.{eq-eqb, eqb-true, cases_eq}
+use Rattle.std.proofs.lemmas.Bool.{eq-eqb, eqb-true, and_parts, and_from}
 use Rattle.record_core.specs.Sums.{total}
-use Rattle.record_core.proofs.TotalFacts.{total-append}
-use Rattle.table_core.specs.Lists.{At, Has, Each, one_if, hit, hit3, dropped}
+use Rattle.record_core.proofs.TotalFacts.{total-member}
+use Rattle.table_core.specs.Lists.{At, Has, Each, dropped}
+use Rattle.table_core.specs.Holdings.{Place, Block}
+use Rattle.table_core.specs.Views.{is_place, same_bool, is_block}
 
 module _ {A : Type 0} where
   none_at : (x : A) → None ≡ Some x → ⊥
@@ -86,6 +88,11 @@ module _ {A : Type 0} where
       by false e rest zero at = absurd (true≢false (sym passes ∙ ap p (sym (same_some y x at)) ∙ e))
       by false e rest (suc k) at = omega (arith, rest k at)
 
+  -- the same where only x passes
+  pub dropped-one : (p : A → Bool) (x : A) → ((y : A) → p y ≡ true → y ≡ x) → p x ≡ true → (f : A → ℕ) (l : List A) → Has x l
+      → total f (dropped p l) + f x ≡ total f l
+  dropped-one p x only passes f l has = total-dropped f p l (f x) (λ y e. ap f (only y e)) x has passes
+
   pub length-dropped : (p : A → Bool) (l : List A) → length (dropped p l) ≤ length l
   length-dropped p [] = omega arith
   length-dropped p (x ∷ l) = by (p x) (length-dropped p l)
@@ -105,14 +112,42 @@ module _ {A : Type 0} where
   map_at {B} f (y ∷ l) zero z at = let same : f y ≡ z = cc in (y, refl, same)
   map_at f (y ∷ l) (suc k) z at = map_at f l k z at
 
--- which of two pairs, and of two triples, agree
-pub hit-same : (i c : ℕ) → hit i c i c ≡ 1
-hit-same i c = ap (λ (b : Bool). cond b (cond (c == c) 1 0) 0) (eq-eqb i i refl) ∙ ap (λ (b : Bool). cond b 1 0) (eq-eqb c c refl)
+-- the tests of places and blocks tell them
+pub place-only : (p r : Place) → is_place p r ≡ true → r ≡ p
+place-only p r e =
+    let t = and_parts (p.superblock == r.superblock) (p.class == r.class) e in
+    let near : p.superblock ≡ r.superblock = eqb-true p.superblock r.superblock t.0 in let alike : p.class ≡ r.class = eqb-true p.class r.class t.1 in
+    sym (λ k. record { superblock = near k; class = alike k })
 
-pub hit-le : (i c j k : ℕ) → hit i c j k ≤ 1
-hit-le i c j k = by (i == j) (c == k)
-  where
-    by : (a b : Bool) → cond a (cond b 1 0) 0 ≤ 1
-    by true true = omega arith
-    by true false = omega arith
-    by false b = omega arith
+pub place-passes : (p : Place) → is_place p p ≡ true
+place-passes p = and_from (p.superblock == p.superblock) (p.class == p.class) (eq-eqb p.superblock p.superblock refl) (eq-eqb p.class p.class refl)
+
+bool-only : (a b : Bool) → same_bool a b ≡ true → a ≡ b
+bool-only true true e = refl
+bool-only true false e = absurd (true≢false (sym e))
+bool-only false true e = absurd (true≢false (sym e))
+bool-only false false e = refl
+
+bool-passes : (a : Bool) → same_bool a a ≡ true
+bool-passes true = refl
+bool-passes false = refl
+
+pub block-only : (x y : Block) → is_block x y ≡ true → y ≡ x
+block-only x y e =
+    let t = and_parts (x.unit == y.unit) ((x.class == y.class) && same_bool x.fresh y.fresh) e in let t' = and_parts (x.class == y.class) (same_bool x.fresh y.fresh) t.1 in
+    let units : x.unit ≡ y.unit = eqb-true x.unit y.unit t.0 in let classes : x.class ≡ y.class = eqb-true x.class y.class t'.0 in
+    let alike : x.fresh ≡ y.fresh = bool-only x.fresh y.fresh t'.1 in
+    sym (λ k. record { unit = units k; class = classes k; fresh = alike k })
+
+pub block-passes : (x : Block) → is_block x x ≡ true
+block-passes x =
+    and_from (x.unit == x.unit) _ (eq-eqb x.unit x.unit refl) (and_from (x.class == x.class) (same_bool x.fresh x.fresh) (eq-eqb x.class x.class refl) (bool-passes x.fresh))
+
+pub dropped-place : (p : Place) (f : Place → ℕ) (l : List Place) → Has p l → total f (dropped (is_place p) l) + f p ≡ total f l
+dropped-place p = dropped-one (is_place p) p (place-only p) (place-passes p)
+
+pub dropped-block : (x : Block) (f : Block → ℕ) (l : List Block) → Has x l → total f (dropped (is_block x) l) + f x ≡ total f l
+dropped-block x = dropped-one (is_block x) x (block-only x) (block-passes x)
+
+pub total-has : {A : Type 0} (f : A → ℕ) (l : List A) (x : A) → Has x l → f x ≤ total f l
+total-has f l x has = total-member f l has.0 x has.1
