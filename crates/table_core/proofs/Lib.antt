@@ -3,3 +3,4 @@ pub mod AddressFacts
 pub mod Rule
 pub mod PoolFacts
 pub mod PoolSteps
+pub mod WinSteps

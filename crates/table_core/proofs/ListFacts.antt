@@ -93,6 +93,17 @@ module _ {A : Type 0} where
       → total f (dropped p l) + f x ≡ total f l
   dropped-one p x only passes f l has = total-dropped f p l (f x) (λ y e. ap f (only y e)) x has passes
 
+  -- a list of which a member is dropped is shorter by one
+  pub length-dropped-has : (p : A → Bool) (l : List A) (x : A) → Has x l → p x ≡ true → length (dropped p l) + 1 ≡ length l
+  length-dropped-has p [] x has passes = absurd (none_at x has.1)
+  length-dropped-has p (y ∷ l) x has passes = by (p y) refl (λ k at. length-dropped-has p l x (k, at) passes) has.0 has.1
+    where
+      by : (b : Bool) → p y ≡ b → ((k : ℕ) → At l k x → length (dropped p l) + 1 ≡ length l) → (k : ℕ) → At (y ∷ l) k x
+          → length (cond b l (y ∷ dropped p l)) + 1 ≡ suc (length l)
+      by true e rest k at = omega arith
+      by false e rest zero at = absurd (true≢false (sym passes ∙ ap p (sym (same_some y x at)) ∙ e))
+      by false e rest (suc k) at = omega (arith, rest k at)
+
   pub length-dropped : (p : A → Bool) (l : List A) → length (dropped p l) ≤ length l
   length-dropped p [] = omega arith
   length-dropped p (x ∷ l) = by (p x) (length-dropped p l)
