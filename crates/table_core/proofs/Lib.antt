@@ -5,3 +5,4 @@ pub mod PoolFacts
 pub mod BitFacts
 pub mod PoolSteps
 pub mod WinSteps
+pub mod PoolKinds
