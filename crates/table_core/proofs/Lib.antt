@@ -6,3 +6,6 @@ pub mod BitFacts
 pub mod PoolSteps
 pub mod WinSteps
 pub mod PoolKinds
+pub mod Opening
+pub mod Splitting
+pub mod Joining

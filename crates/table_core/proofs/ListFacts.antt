@@ -1,8 +1,8 @@
 -- Lists of which one member changes, and members that are dropped.
-use Rattle.std.proofs.Common.{◌≡◌, ◌≢◌, ◌∙◌, ◌⊎◌, inl, inr, ℕ, zero, suc, ◌+◌, ◌<◌, ◌≤◌, Bool, true, false, cond, ◌==◌, ◌&&◌, Option, Some, None, List, [], ◌∷◌, ◌++◌, map, length, refl, sym, ap, subst, true≢false, arith}
+use Rattle.std.proofs.Common.{◌≡◌, ◌≢◌, ◌∙◌, ◌⊎◌, inl, inr, ℕ, zero, suc, ◌+◌, ◌≤◌, Bool, true, false, cond, ◌==◌, ◌&&◌, Some, None, List, [], ◌∷◌, ◌++◌, map, length, refl, sym, ap, subst, true≢false, arith}
 use mathlib.Core.Option as maybe
 use lib.ListN.{get_elem?}
-use Rattle.std.specs.Prelude.{slice_get, slice_set}
+use Rattle.std.specs.Prelude.{slice_set}
 use Rattle.std.proofs.lemmas.Bool.{eq-eqb, eqb-true, and_parts, and_from}
 use Rattle.record_core.specs.Sums.{total}
 use Rattle.record_core.proofs.TotalFacts.{total-member}
@@ -59,6 +59,9 @@ module _ {A : Type 0} where
 
   pub each-append : (P : A → Type 0) (l more : List A) → Each P l → Each P more → Each P (l ++ more)
   each-append P l more all all' k x at = elim (append_cases l more k x at) [ inl t ↦ all t.0 x t.1 | inr t ↦ all' t.0 x t.1 ]
+
+  pub each-none : (P : A → Type 0) → Each P []
+  each-none P k x at = absurd (none_at x at)
 
   pub each-cons : (P : A → Type 0) (x : A) (l : List A) → P x → Each P l → Each P (x ∷ l)
   each-cons P x l first all zero y at = subst P (same_some x y at) first

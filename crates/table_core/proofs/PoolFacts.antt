@@ -1,21 +1,20 @@
 -- The pool where one superblock and one hand change.
-use Rattle.std.proofs.Common.{◌≡◌, ◌≢◌, ◌∙◌, ◌⊎◌, inl, inr, ℕ, zero, suc, ◌+◌, ◌*◌, ◌/◌, ◌%◌, ◌^◌, ◌<◌, ◌≤◌, Bool, true, false, cond, ◌==◌, List, [], ◌∷◌, refl, sym, ap, subst, true≢false, mul-le-mul_right, suc-mul, mod-lt, arith}
+use Rattle.std.proofs.Common.{◌≡◌, ◌≢◌, ◌∙◌, ◌⊎◌, inl, inr, ℕ, suc, ◌+◌, ◌*◌, ◌%◌, ◌<◌, ◌≤◌, Bool, true, false, cond, ◌==◌, List, refl, sym, ap, subst, mul-le-mul_right, suc-mul, mod-lt, arith}
 use Rattle.std.proofs.Math.Nat.{div-lt_iff_lt-mul}
-use Rattle.std.specs.Prelude.{slice_get, slice_set, nat_lt}
+use Rattle.std.specs.Prelude.{slice_set, nat_lt}
 use Rattle.std.proofs.lemmas.Nat.{pow_pos}
-use Rattle.std.proofs.lemmas.Bool.{cases_eq, eq-eqb, eqb-true, ne_eqb, ltb-true, lt-ltb, le-ltb}
+use Rattle.std.proofs.lemmas.Bool.{cases_eq, eq-eqb, eqb-true, ne_eqb, ltb-true}
 use Rattle.record_core.specs.Sums.{total, below}
 use Rattle.record_core.proofs.TotalFacts.{total-le, total-set, total-member}
 use Rattle.record_core.proofs.BelowFacts.{below-member}
 use Rattle.kt_words.specs.declared.plan.Plan.{Plan}
-use Rattle.kt_words.specs.Capacity.{block_units, capacity}
-use Rattle.kt_words.specs.SuperWords.{count_of, class_of, ever_of}
+use Rattle.kt_words.specs.Capacity.{block_units}
+use Rattle.kt_words.specs.SuperWords.{class_of}
 use Rattle.kt_words.proofs.GeometryFacts.{blocks_fill, blocks_end_inside, unit_names_place}
-use Rattle.table_core.specs.Addresses.{units_of}
 use Rattle.table_core.specs.Lists.{At, Each, hit, hit3}
 use Rattle.table_core.specs.Holdings.{Block}
 use Rattle.table_core.specs.Pool.{cap, unit_of, superblock_of, bit_of, IsBlock, is_used, Hand, places, owns, records, used_at, held, owned, IsKept, PoolSound}
-use Rattle.table_core.proofs.ListFacts.{each-set, set_cases}
+use Rattle.table_core.proofs.ListFacts.{each-set}
 
 pub cond-plus : (b : Bool) (x y : ℕ) → cond b x 0 + cond b y 0 ≡ cond b (x + y) 0
 cond-plus true x y = refl
@@ -65,8 +64,8 @@ module _ (g : Plan) where
   owns-places : (i c b : ℕ) (h : Hand) → owns g i c b h ≤ places g i c h
   owns-places i c b h =
       let fewer : owns g i c b h ≤ total (λ (x : Block). hit (superblock_of g x.unit) x.class i c) h.blocks =
-          total-le (λ (x : Block). hit3 (superblock_of g x.unit) x.class (bit_of g x.unit x.class) i c b) (λ (x : Block). hit (superblock_of g x.unit) x.class i c) h.blocks
-          (λ k x at. hit3-le (superblock_of g x.unit) x.class (bit_of g x.unit x.class) i c b) in
+      total-le (λ (x : Block). hit3 (superblock_of g x.unit) x.class (bit_of g x.unit x.class) i c b) (λ (x : Block). hit (superblock_of g x.unit) x.class i c) h.blocks
+      (λ k x at. hit3-le (superblock_of g x.unit) x.class (bit_of g x.unit x.class) i c b) in
       omega (arith, fewer)
 
   -- the first unit of a block lies in its superblock
@@ -127,6 +126,17 @@ module _ (g : Plan) where
         inside = λ c b past. same_owned c b ∙ kept.inside c b past;
       })
 
+  -- hands that have the same together
+  pub pool-same : (supers : ℕ → ℕ) (bits : ℕ → ℕ → ℕ) (states : ℕ → ℕ) (hands hands' : List Hand) → PoolSound g supers bits states hands
+      → ((i c : ℕ) → total (places g i c) hands' ≡ total (places g i c) hands) → ((i c b : ℕ) → total (owns g i c b) hands' ≡ total (owns g i c b) hands)
+      → Each (λ h. Each (λ (b : Block). IsBlock g b.unit b.class) h.blocks) hands' → PoolSound g supers bits states hands'
+  pool-same supers bits states hands hands' sound same same' blocks = record {
+    kept = λ i near. kept-same (supers i) (supers i) (bits i) (bits i) (held g supers states hands i) (held g supers states hands' i) (owned g supers states hands i) (owned g supers states hands' i)
+        (sound.kept i near) refl (λ b small. refl) (λ c. omega (arith, same i c)) (λ c b. omega (arith, same' i c b));
+    blocks = blocks;
+    first = sound.first;
+  }
+
   module _ (supers : ℕ → ℕ) (bits : ℕ → ℕ → ℕ) (states : ℕ → ℕ) (hands : List Hand) (id : ℕ) (h h' : Hand) (at : At hands id h) where
     -- sums over the hands, after one has changed
     pub places_after : (i c : ℕ) → total (places g i c) (slice_set hands id h') + places g i c h ≡ total (places g i c) hands + places g i c h'
@@ -163,6 +173,7 @@ module _ (g : Plan) where
             (owned g supers states hands j) (owned g supers' states (slice_set hands id h') j) (sound.kept j near) (same_supers j ne) (λ b. same_bits j b ne)
             (λ c. omega (arith, places_after j c, same_places j c ne, ap (λ (n : ℕ). cond (class_of n == c) (records g states j) 0) (same_supers j ne)))
             (λ c b. omega (arith, owns_after j c b, same_owns j c b ne, ap (λ (n : ℕ). cond (class_of n == c) (used_at g states j c b) 0) (same_supers j ne)))
+
         first_by : (j k : ℕ) → j < g.geometry.superblocks → k < g.geometry.units → is_used (states (j * g.geometry.units + k)) ≡ 1 → (j ≡ i) ⊎ (j ≢ i)
             → k % block_units (class_of (supers' j)) ≡ 0
         first_by j k near below used (inl e) =

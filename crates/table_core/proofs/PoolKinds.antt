@@ -1,7 +1,7 @@
 -- Each kind of step of the pool keeps the rule.
-use Rattle.std.proofs.Common.{◌≡◌, ◌≢◌, ◌∙◌, ◌⊎◌, inl, inr, ℕ, zero, suc, ◌+◌, ◌-◌, ◌/◌, ◌%◌, ◌^◌, ◌<◌, ◌≤◌, Bool, true, false, cond, ◌==◌, List, [], ◌∷◌, map, length, refl, sym, ap, subst, arith}
+use Rattle.std.proofs.Common.{◌≡◌, ◌≢◌, ◌∙◌, ◌⊎◌, inl, inr, ℕ, zero, suc, ◌+◌, ◌-◌, ◌/◌, ◌%◌, ◌^◌, ◌<◌, ◌≤◌, Bool, cond, ◌==◌, List, map, refl, sym, ap, subst, arith}
 use prog.Atomic.{either}
-use Rattle.std.specs.Prelude.{slice_get, slice_set}
+use Rattle.std.specs.Prelude.{slice_set}
 use Rattle.std.specs.Int.{bit_at}
 use Rattle.std.specs.Int.Bits.{bit_or, bit_and}
 use Rattle.std.proofs.lemmas.Bool.{cases_eq, eq-eqb, ne_eqb}
@@ -13,19 +13,19 @@ use Rattle.kt_words.specs.SuperWordLaws.{SuperWordSays, reserved_word}
 use Rattle.kt_words.proofs.SuperWordFacts.{word_reserves, count_falls}
 use Rattle.table_core.specs.Addresses.{Addr, Mem, super, bits, state, put}
 use Rattle.table_core.specs.Lists.{At, Has, Each, one_if, hit}
-use Rattle.table_core.specs.Holdings.{Place, Block, Look}
+use Rattle.table_core.specs.Holdings.{Place, Block}
 use Rattle.table_core.specs.Story.{Story, tasks_in}
-use Rattle.table_core.specs.Pool.{cap, superblock_of, bit_of, IsBlock, Hand, PoolSound, bit_in}
+use Rattle.table_core.specs.Pool.{cap, superblock_of, bit_of, Hand, PoolSound, bit_in}
 use Rattle.table_core.specs.Wins.{Won, Looked, IsLook, at_place, WinsSound}
 use Rattle.table_core.specs.Bounds.{Held, IsBounded}
-use Rattle.table_core.specs.Views.{place, block, is_place, is_block, saw, look_of, looked, reserved, claimed, cleared, settled}
+use Rattle.table_core.specs.Views.{place, is_place, saw, look_of, looked, reserved, claimed, cleared, settled}
 use Rattle.table_core.specs.Steps.{Tried, WonBit}
-use Rattle.table_core.specs.Parts.{Part, pool, shares, bounds, wins, looks, evers, Seen, seen, Says, AllSay, Lawful, Keeps}
+use Rattle.table_core.specs.Parts.{Part, pool, bounds, wins, looks, evers, seen, Says, AllSay, Lawful, Keeps}
 use Rattle.table_core.specs.declared.setup.Setup.{Setup}
 use Rattle.table_core.specs.declared.view.View.{View}
-use Rattle.table_core.proofs.ListFacts.{at_map, each-set, each-cons, dropped-block, length-dropped-has, place-passes, block-passes, total-has}
+use Rattle.table_core.proofs.ListFacts.{at_map, each-set, each-cons, dropped-block, length-dropped-has, place-passes, total-has}
 use Rattle.table_core.proofs.Rule.{frames, moves, kept_word}
-use Rattle.table_core.proofs.PoolFacts.{cond-at, hit-here, superblock_near}
+use Rattle.table_core.proofs.PoolFacts.{cond-at, hit-here}
 use Rattle.table_core.proofs.PoolSteps.{count-small, class_held, block_set, pool-reserved, pool-settled, pool-claimed, pool-cleared}
 use Rattle.table_core.proofs.WinSteps.{wins-reserved, wins-settled, looks-moved, evers-moved}
 use Rattle.table_core.proofs.BitFacts.{one_bit, all_but, set_again, bits-set, bits-cleared}
@@ -101,15 +101,15 @@ module _ (g : Setup) (id : ℕ) (v : View) where
           let k : ℕ = class_of word in
           let kept : WinsSound g.plan supers (map (seen wins) vs) = l wins in
           let mine : at_place i k v.settles ≤ total (λ (u : Won). at_place i k u.settles) (map (seen wins) vs) =
-              total-member (λ (u : Won). at_place i k u.settles) (map (seen wins) vs) id (seen wins v) (at_map (seen wins) vs id v at) in
+          total-member (λ (u : Won). at_place i k u.settles) (map (seen wins) vs) id (seen wins v) (at_map (seen wins) vs id v at) in
           omega (arith, kept i k near, mine, cond-at k k (count_of word) refl, total-map (λ (u : Won). at_place i k u.wins) (seen wins) vs)
 
       new_look : IsLook g.plan supers (slice_set (map (seen looks) vs) id (seen looks after_look)) v.wins (look_of i c word v)
       new_look =
           let k : ℕ = class_of word in
           let all : total (λ (u : Looked). at_place i k u.wins) (slice_set (map (seen looks) vs) id (seen looks after_look)) + at_place i k v.wins
-              ≡ total (λ (u : Looked). at_place i k u.wins) (map (seen looks) vs) + at_place i k v.wins =
-              total-set (λ (u : Looked). at_place i k u.wins) (map (seen looks) vs) id (seen looks v) (seen looks after_look) (at_map (seen looks) vs id v at) in
+          ≡ total (λ (u : Looked). at_place i k u.wins) (map (seen looks) vs) + at_place i k v.wins =
+          total-set (λ (u : Looked). at_place i k u.wins) (map (seen looks) vs) id (seen looks v) (seen looks after_look) (at_map (seen looks) vs id v at) in
           record {
             near = near;
             class_fits = class_near;
@@ -127,7 +127,7 @@ module _ (g : Setup) (id : ℕ) (v : View) where
 
     -- reserve
     module _ (i c new : ℕ) (near : i < g.plan.geometry.superblocks) (fits : c ≤ 3) (in_use : 1 ≤ v.parts) (which : (class_of (m (super i)) ≡ c) ⊎ (count_of (m (super i)) ≡ 0))
-      (room : count_of (m (super i)) < cap g.plan c) (new_is : new ≡ reserved_word (m (super i)) c) (small : m (super i) < 18446744073709551616) where
+        (room : count_of (m (super i)) < cap g.plan c) (new_is : new ≡ reserved_word (m (super i)) c) (small : m (super i) < 18446744073709551616) where
       abbrev after_reserve : View
       after_reserve = saw (super i) (m (super i)) (reserved (place i c) v)
 
@@ -204,7 +204,7 @@ module _ (g : Setup) (id : ℕ) (v : View) where
 
     -- claim, where the bit is clear
     module _ (i c b : ℕ) (near : i < g.plan.geometry.superblocks) (fits : c ≤ 3) (below : b < cap g.plan c) (in_use : 1 ≤ v.parts) (has : Has (place i c) v.reserved)
-      (clear : bit_at (m (bits i (b / 64))) (b % 64) ≡ 0) where
+        (clear : bit_at (m (bits i (b / 64))) (b % 64) ≡ 0) where
       abbrev after_claim : View
       after_claim = saw (bits i (b / 64)) (m (bits i (b / 64))) (claimed g.plan (place i c) b v)
 

@@ -1,5 +1,5 @@
 -- The pool after each of its steps.
-use Rattle.std.proofs.Common.{◌≡◌, ◌≢◌, ◌∙◌, ◌⊎◌, inl, inr, ℕ, zero, suc, ◌+◌, ◌-◌, ◌*◌, ◌/◌, ◌%◌, ◌<◌, ◌≤◌, Bool, true, false, cond, ◌==◌, List, [], ◌∷◌, refl, sym, ap, subst, arith}
+use Rattle.std.proofs.Common.{◌≡◌, ◌≢◌, ◌∙◌, ◌⊎◌, inl, inr, ℕ, ◌+◌, ◌-◌, ◌*◌, ◌%◌, ◌<◌, ◌≤◌, true, cond, ◌==◌, List, ◌∷◌, refl, sym, ap, subst, arith}
 use Rattle.std.specs.Prelude.{slice_set}
 use Rattle.std.proofs.lemmas.Bool.{cases_eq}
 use Rattle.record_core.specs.Sums.{total, below}
@@ -120,6 +120,7 @@ module _ (g : Plan) (supers : ℕ → ℕ) (bits : ℕ → ℕ → ℕ) (states 
           first : (class_of (supers i) ≡ c) ⊎ (count_of (supers i) ≡ 0) → (j : ℕ) → j < g.geometry.units → is_used (states (i * g.geometry.units + j)) ≡ 1 → j % block_units (class_of (supers' i)) ≡ 0
           first (inl same) j below used = subst (λ (k : ℕ). j % block_units k ≡ 0) (same ∙ sym says.class_is) (sound.first i j near below used)
           first (inr none) j below used = absurd (omega (arith, used, no_records none, below-member (λ u. is_used (states (i * g.geometry.units + u))) g.geometry.units j below))
+
           here : (class_of (supers i) ≡ c) ⊎ (count_of (supers i) ≡ 0) → IsKept g (supers' i) (bits i) (held g supers' states after i) (owned g supers' states after i)
           here (inl same) = reserved_same same
           here (inr none) = reserved_empty none
@@ -186,14 +187,21 @@ module _ (g : Plan) (supers : ℕ → ℕ) (bits : ℕ → ℕ → ℕ) (states 
       claimed_kept =
           let class_is : (k x : ℕ) → cond (class_of (supers i) == k) x 0 ≡ cond (c == k) x 0 = λ k x. ap (λ (n : ℕ). cond (n == k) x 0) its_class in
           let owned_after : (k d : ℕ) → owned g supers states then i k d ≡ owned g supers states hands i k d + cond (c == k) (cond (b == d) 1 0) 0 =
-              λ k d. omega (arith, owns_after g supers bits states hands id h won at i k d, one_block i k d, hit3-here i c b k d) in
+          λ k d. omega (arith, owns_after g supers bits states hands id h won at i k d, one_block i k d, hit3-here i c b k d) in
           record {
             class_fits = kept.class_fits;
             counted = λ k. omega (arith, places_after g supers bits states hands id h won at i k, same_places i k, kept.counted k);
             few = kept.few;
             ever = kept.ever;
-            once = λ k d small. omega (arith, owned_after k d, kept.once k d small, class_is k (bits i d), class_is k (bits' i d), cond-plus (c == k) (bits i d) (cond (b == d) 1 0),
-                ap (λ (x : ℕ). cond (c == k) x 0) (set i d small ∙ ap (λ (x : ℕ). bits i d + x) (hit-here i b d)));
+            once = λ k d small. omega (
+              arith,
+              owned_after k d,
+              kept.once k d small,
+              class_is k (bits i d),
+              class_is k (bits' i d),
+              cond-plus (c == k) (bits i d) (cond (b == d) 1 0),
+              ap (λ (x : ℕ). cond (c == k) x 0) (set i d small ∙ ap (λ (x : ℕ). bits i d + x) (hit-here i b d)),
+            );
             inside = λ k d past. omega (arith, owned_after k d, kept.inside k d past, outside k d past (cases_eq c k));
           }
         where
@@ -234,14 +242,21 @@ module _ (g : Plan) (supers : ℕ → ℕ) (bits : ℕ → ℕ → ℕ) (states 
         let its_class : class_of (supers its) ≡ c = (class_held its c near (omega (arith, mine, hit-here its c c, cond-at c c 1 refl))).0 in
         let class_is : (k n : ℕ) → cond (class_of (supers its) == k) n 0 ≡ cond (c == k) n 0 = λ k n. ap (λ (y : ℕ). cond (y == k) n 0) its_class in
         let owned_after : (k d : ℕ) → owned g supers states later its k d + cond (c == k) (cond (b == d) 1 0) 0 ≡ owned g supers states hands its k d =
-            λ k d. omega (arith, owns_after g supers bits states hands id h given at its k d, less_blocks its k d, hit3-here its c b k d) in
+        λ k d. omega (arith, owns_after g supers bits states hands id h given at its k d, less_blocks its k d, hit3-here its c b k d) in
         record {
           class_fits = was.class_fits;
           counted = λ k. omega (arith, places_after g supers bits states hands id h given at its k, still_places its k, was.counted k);
           few = was.few;
           ever = was.ever;
-          once = λ k d small. omega (arith, owned_after k d, was.once k d small, class_is k (bits its d), class_is k (bits' its d), cond-plus (c == k) (bits' its d) (cond (b == d) 1 0),
-              ap (λ (n : ℕ). cond (c == k) n 0) (ap (λ (n : ℕ). bits' its d + n) (sym (hit-here its b d)) ∙ clear its d small));
+          once = λ k d small. omega (
+            arith,
+            owned_after k d,
+            was.once k d small,
+            class_is k (bits its d),
+            class_is k (bits' its d),
+            cond-plus (c == k) (bits' its d) (cond (b == d) 1 0),
+            ap (λ (n : ℕ). cond (c == k) n 0) (ap (λ (n : ℕ). bits' its d + n) (sym (hit-here its b d)) ∙ clear its d small),
+          );
           inside = λ k d past. omega (arith, owned_after k d, was.inside k d past);
         }
 

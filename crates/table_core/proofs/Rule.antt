@@ -1,15 +1,13 @@
 -- How the rule is kept: a part that reads nothing of what a step changes stays, and a step that keeps all parts may be made.
-use Rattle.std.proofs.Common.{◌≡◌, ◌≢◌, ◌∙◌, ℕ, ◌<◌, true, List, [], ◌∷◌, ◌++◌, map, length, refl, sym, ap, subst, arith, length-set}
-use mathlib.Core.Option as maybe
-use lib.ListN.{get_elem?}
-use Rattle.std.specs.Prelude.{slice_index, slice_get, slice_set}
+use Rattle.std.proofs.Common.{◌≡◌, ◌∙◌, ℕ, true, List, map, refl, sym, ap, subst, arith, length-set}
+use Rattle.std.specs.Prelude.{slice_index, slice_set}
 use Rattle.std.proofs.lemmas.List.{map-set}
 use Rattle.atomic_table.specs.Table.{State, Me, Act, Allows, Splits, Joins}
 use Rattle.atomic_table.specs.Table as table
-use Rattle.table_core.specs.Addresses.{Addr, Mem, address, words_of, is_there, mem_of, put}
+use Rattle.table_core.specs.Addresses.{Addr, Mem, address, is_there, mem_of, put}
 use Rattle.table_core.specs.Lists.{At}
 use Rattle.table_core.specs.Story.{Story}
-use Rattle.table_core.specs.Parts.{Part, Seen, seen, Says, AllSay, Lawful, Holds, Keeps}
+use Rattle.table_core.specs.Parts.{Part, seen, Says, Lawful, Holds, Keeps}
 use Rattle.table_core.specs.declared.setup.Setup.{Setup}
 use Rattle.table_core.specs.declared.view.View.{View}
 use Rattle.table_core.proofs.ListFacts.{found, set_again, at_map}
@@ -20,7 +18,7 @@ module _ (g : Setup) (vs : List View) (id : ℕ) (v : View) (at : At vs id v) wh
   pub frames : (q : Part) (s : Story) (n : Mem) (w : View) → seen q v ≡ seen q w → Says g q s n (map (seen q) vs) → Says g q s n (map (seen q) (slice_set vs id w))
   frames q s n w same says =
       let unchanged : map (seen q) (slice_set vs id w) ≡ map (seen q) vs =
-          map-set (seen q) vs id w ∙ ap (slice_set (map (seen q) vs) id) (sym same) ∙ set_again (map (seen q) vs) id (seen q v) (at_map (seen q) vs id v at) in
+      map-set (seen q) vs id w ∙ ap (slice_set (map (seen q) vs) id) (sym same) ∙ set_again (map (seen q) vs) id (seen q v) (at_map (seen q) vs id v at) in
       subst (Says g q s n) (sym unchanged) says
 
   -- a part holds where it holds with what it reads of the new view
@@ -43,7 +41,7 @@ may_step g slots id me a f told there keeps s holds homes at small =
     let step = keeps m s.views holds.1.0 holds.1.1 (found s.views id me.0 at) (omega (arith, small, read)) in
     let new : View = step.0 in
     let written : put m a (f (m a)) ≡ mem_of g.plan (slice_set s.words (address g.plan a) (f (slice_index s.words (address g.plan a)))) =
-        ap (λ (n : ℕ). put m a (f n)) read ∙ sym (mem-put g.plan s.words a (f (slice_index s.words (address g.plan a))) holds.0 there) in (
+    ap (λ (n : ℕ). put m a (f n)) read ∙ sym (mem-put g.plan s.words a (f (slice_index s.words (address g.plan a))) holds.0 there) in (
       new,
       table.keeps,
       tt,

@@ -1,10 +1,10 @@
 -- Wins, looks and the reservations ever made, after a step of the pool.
-use Rattle.std.proofs.Common.{◌≡◌, ◌≢◌, ◌∙◌, ◌⊎◌, inl, inr, ℕ, zero, suc, ◌+◌, ◌-◌, ◌<◌, ◌≤◌, Bool, true, false, cond, ◌==◌, List, [], ◌∷◌, refl, sym, ap, subst, arith}
+use Rattle.std.proofs.Common.{◌≡◌, ◌≢◌, ◌∙◌, ◌⊎◌, inl, inr, ℕ, ◌+◌, ◌-◌, ◌<◌, ◌≤◌, cond, ◌==◌, List, ◌∷◌, sym, ap, subst, arith}
 use Rattle.std.specs.Prelude.{slice_set}
 use Rattle.std.proofs.lemmas.Bool.{cases_eq}
 use Rattle.record_core.specs.Sums.{total, below}
 use Rattle.record_core.proofs.TotalFacts.{total-set}
-use Rattle.record_core.proofs.BelowFacts.{below-le, below-set}
+use Rattle.record_core.proofs.BelowFacts.{below-set}
 use Rattle.kt_words.specs.declared.plan.Plan.{Plan}
 use Rattle.kt_words.specs.SuperWords.{count_of, class_of, ever_of, risen}
 use Rattle.kt_words.specs.SuperWordLaws.{SuperWordSays}
@@ -36,8 +36,10 @@ module _ (g : Plan) (supers supers' : ℕ → ℕ) where
       where
         wins_after : (j : ℕ) → total (λ v. at_place j k v.wins) after_win ≡ total (λ v. at_place j k v.wins) vs + hit i c j k
         wins_after j = omega (arith, total-set (λ (v : Won). at_place j k v.wins) vs id u winner at)
+
         settles_after : (j : ℕ) → total (λ v. at_place j k v.settles) after_win ≡ total (λ v. at_place j k v.settles) vs
         settles_after j = omega (arith, total-set (λ (v : Won). at_place j k v.settles) vs id u winner at)
+
         grows : (class_of (supers i) ≡ c) ⊎ (count_of (supers i) ≡ 0) → cond (class_of (supers' i) == k) (count_of (supers' i)) 0 ≡ cond (class_of (supers i) == k) (count_of (supers i)) 0 + cond (c == k) 1 0
         grows (inl same) =
             (λ x. cond (says.class_is x == k) (says.count_is x) 0) ∙ sym (cond-plus (c == k) (count_of (supers i)) 1)
@@ -46,8 +48,10 @@ module _ (g : Plan) (supers supers' : ℕ → ℕ) where
             let one : count_of (supers' i) ≡ 1 = omega (arith, says.count_is, none) in
             let first : cond (class_of (supers' i) == k) (count_of (supers' i)) 0 ≡ cond (c == k) 1 0 = λ x. cond (says.class_is x == k) (one x) 0 in
             omega (arith, first, cond-le (class_of (supers i) == k) (count_of (supers i)))
+
         here : total (λ v. at_place i k v.wins) after_win ≡ cond (class_of (supers' i) == k) (count_of (supers' i)) 0 + total (λ v. at_place i k v.settles) after_win
         here = omega (arith, wins_after i, settles_after i, sound i k near, hit-here i c k, grows which)
+
         by : (j ≡ i) ⊎ (j ≢ i) → total (λ v. at_place j k v.wins) after_win ≡ cond (class_of (supers' j) == k) (count_of (supers' j)) 0 + total (λ v. at_place j k v.settles) after_win
         by (inl e) = subst (λ (x : ℕ). total (λ v. at_place x k v.wins) after_win ≡ cond (class_of (supers' x) == k) (count_of (supers' x)) 0 + total (λ v. at_place x k v.settles) after_win) (sym e) here
         by (inr ne) = omega (arith, wins_after j, settles_after j, sound j k near', hit-apart i c j k (λ e. ne (sym e)), ap (λ (n : ℕ). cond (class_of n == k) (count_of n) 0) (others j ne))
@@ -59,24 +63,29 @@ module _ (g : Plan) (supers supers' : ℕ → ℕ) where
       where
         wins_after : (j : ℕ) → total (λ v. at_place j k v.wins) after_pay ≡ total (λ v. at_place j k v.wins) vs
         wins_after j = omega (arith, total-set (λ (v : Won). at_place j k v.wins) vs id u payer at)
+
         settles_after : (j : ℕ) → total (λ v. at_place j k v.settles) after_pay ≡ total (λ v. at_place j k v.settles) vs + hit i c j k
         settles_after j = omega (arith, total-set (λ (v : Won). at_place j k v.settles) vs id u payer at)
+
         back : count_of (supers' i) + 1 ≡ count_of (supers i)
         back = omega (arith, says.count_is, some)
+
         falls : cond (class_of (supers' i) == k) (count_of (supers' i)) 0 + cond (c == k) 1 0 ≡ cond (class_of (supers i) == k) (count_of (supers i)) 0
         falls =
             ap (λ (n : ℕ). cond (n == k) (count_of (supers' i)) 0 + cond (c == k) 1 0) (says.class_is ∙ its_class) ∙ cond-plus (c == k) (count_of (supers' i)) 1
             ∙ (λ x. cond (sym its_class x == k) (back x) 0)
+
         here : total (λ v. at_place i k v.wins) after_pay ≡ cond (class_of (supers' i) == k) (count_of (supers' i)) 0 + total (λ v. at_place i k v.settles) after_pay
         here = omega (arith, wins_after i, settles_after i, sound i k near, hit-here i c k, falls)
+
         by : (j ≡ i) ⊎ (j ≢ i) → total (λ v. at_place j k v.wins) after_pay ≡ cond (class_of (supers' j) == k) (count_of (supers' j)) 0 + total (λ v. at_place j k v.settles) after_pay
         by (inl e) = subst (λ (x : ℕ). total (λ v. at_place x k v.wins) after_pay ≡ cond (class_of (supers' x) == k) (count_of (supers' x)) 0 + total (λ v. at_place x k v.settles) after_pay) (sym e) here
         by (inr ne) = omega (arith, wins_after j, settles_after j, sound j k near', hit-apart i c j k (λ e. ne (sym e)), ap (λ (n : ℕ). cond (class_of n == k) (count_of n) 0) (others j ne))
 
   -- a look stays one where wins are added, and its own pass's with them
-  look-kept : (vs vs' : List Looked) (own own' : List Place) (l : Look) → ever_of (supers l.superblock) ≤ ever_of (supers' l.superblock)
+  pub look-kept : (vs vs' : List Looked) (own own' : List Place) (l : Look) → ever_of (supers l.superblock) ≤ ever_of (supers' l.superblock)
       → at_place l.superblock (class_of l.word) own' + total (λ v. at_place l.superblock (class_of l.word) v.wins) vs
-          ≤ at_place l.superblock (class_of l.word) own + total (λ v. at_place l.superblock (class_of l.word) v.wins) vs'
+      ≤ at_place l.superblock (class_of l.word) own + total (λ v. at_place l.superblock (class_of l.word) v.wins) vs'
       → IsLook g supers vs own l → IsLook g supers' vs' own' l
   look-kept vs vs' own own' l rises more is = record {
     near = is.near;
@@ -96,6 +105,7 @@ module _ (g : Plan) (supers supers' : ℕ → ℕ) where
       sums : (l : Look) → total (λ v. at_place l.superblock (class_of l.word) v.wins) (slice_set vs id u') + at_place l.superblock (class_of l.word) u.wins
           ≡ total (λ v. at_place l.superblock (class_of l.word) v.wins) vs + at_place l.superblock (class_of l.word) u'.wins
       sums l = total-set (λ (v : Looked). at_place l.superblock (class_of l.word) v.wins) vs id u u' at
+
       by : ((j ≡ id) × (y ≡ u')) ⊎ ((j ≢ id) × At vs j y) → Each (IsLook g supers' (slice_set vs id u') y.wins) y.looks
       by (inl t) = subst (λ (z : Looked). Each (IsLook g supers' (slice_set vs id u') z.wins) z.looks) (sym t.1)
           (looks (λ k l there. look-kept vs (slice_set vs id u') u.wins u'.wins l (rises l.superblock) (omega (arith, sums l)) (sound id u at k l there)))
@@ -106,5 +116,5 @@ module _ (g : Plan) (supers supers' : ℕ → ℕ) where
       → ever_of (supers' i) ≤ ever_of (supers i) + d → u + d ≤ u' → EversSound g supers tasks vs → EversSound g supers' tasks (slice_set vs id u')
   evers-moved tasks i d vs id u u' at near others few accounts sound =
       let words : below (λ j. ever_of (supers' j)) g.geometry.superblocks + ever_of (supers i) ≡ below (λ j. ever_of (supers j)) g.geometry.superblocks + ever_of (supers' i) =
-          below-set (λ j. ever_of (supers j)) (λ j. ever_of (supers' j)) g.geometry.superblocks i near (λ j b ne. ap ever_of (others j ne)) in
+      below-set (λ j. ever_of (supers j)) (λ j. ever_of (supers' j)) g.geometry.superblocks i near (λ j b ne. ap ever_of (others j ne)) in
       omega (arith, words, total-set (λ (n : ℕ). n) vs id u u' at, few, accounts, sound)

@@ -1,5 +1,5 @@
 -- What a pass holds, and what it keeps of what it saw.
-use Rattle.std.specs.Prelude.{ℕ, ◌+◌, Bool, Option, List}
+use Rattle.std.specs.Prelude.{ℕ, Bool, Option, List}
 use Rattle.table_core.specs.Asking.{Cut}
 
 -- a place in the count of a superblock, for a block of this class

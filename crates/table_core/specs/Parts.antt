@@ -1,6 +1,6 @@
 -- The rule that holds between any two steps. It is a list of parts; each reads some kinds of words, some lists of the story,
 -- and something of each view.
-use Rattle.std.specs.Prelude.{◌≡◌, ℕ, ◌+◌, ◌^◌, ◌<◌, List, map, length, slice_get, slice_set, Some, cond, ◌==◌}
+use Rattle.std.specs.Prelude.{◌≡◌, ℕ, ◌+◌, ◌<◌, List, map, length, slice_get, slice_set, Some, cond, ◌==◌}
 use Rattle.record_core.specs.Sums.{total}
 use Rattle.table_core.specs.Addresses.{Addr, Mem, super, state, put, words_of, mem_of}
 use Rattle.table_core.specs.Lists.{Each, one_if}

@@ -1,5 +1,5 @@
 -- What steps do to a view.
-use Rattle.std.specs.Prelude.{◌≡◌, ℕ, ◌+◌, ◌-◌, List, [], ◌∷◌, ◌++◌, Bool, cond, ◌==◌, ◌&&◌, not, true, map, max, length}
+use Rattle.std.specs.Prelude.{◌≡◌, ℕ, ◌+◌, ◌-◌, [], ◌∷◌, ◌++◌, Bool, cond, ◌==◌, ◌&&◌, not, true, map, max, length}
 use Rattle.kt_words.specs.declared.plan.Plan.{Plan}
 use Rattle.kt_words.specs.SuperWords.{class_of}
 use Rattle.table_core.specs.Addresses.{Addr}

@@ -1,0 +1,123 @@
+-- A pass is joined into another: the rule is kept.
+use Rattle.std.proofs.Common.{◌≡◌, ◌≢◌, ◌∙◌, ℕ, ◌+◌, ◌≤◌, List, map, length, refl, sym, ap, subst, arith, length-append}
+use Rattle.std.specs.Prelude.{slice_set}
+use Rattle.std.proofs.lemmas.List.{map-set}
+use Rattle.atomic_table.specs.Table.{Joins}
+use Rattle.record_core.specs.Sums.{total}
+use Rattle.record_core.proofs.TotalFacts.{total-set_two, total-append, slice_get-set_other}
+use Rattle.kt_words.specs.SuperWords.{class_of}
+use Rattle.table_core.specs.Addresses.{Mem, super, state, mem_of}
+use Rattle.table_core.specs.Lists.{At, Each, one_if, hit, hit3}
+use Rattle.table_core.specs.Holdings.{Place, Block, Look}
+use Rattle.table_core.specs.Story.{Story}
+use Rattle.table_core.specs.Pool.{Hand, IsBlock, superblock_of, bit_of, places, owns, bit_in}
+use Rattle.table_core.specs.Wins.{Won, Looked, IsLook, at_place}
+use Rattle.table_core.specs.Bounds.{IsBounded}
+use Rattle.table_core.specs.Views.{joined, spent, with_wins, HasOnlyBlocks}
+use Rattle.table_core.specs.Parts.{Part, pool, shares, bounds, wins, looks, evers, Seen, seen, unnumbered, Says, AllSay}
+use Rattle.table_core.specs.declared.setup.Setup.{Setup}
+use Rattle.table_core.specs.declared.view.View.{View}
+use Rattle.table_core.proofs.ListFacts.{found, at_map, map_at, each-set, each-append, each-none}
+use Rattle.table_core.proofs.PoolFacts.{pool-same}
+use Rattle.table_core.proofs.WinSteps.{look-kept}
+use Rattle.table_core.proofs.Rule.{holds_at}
+
+module _ (g : Setup) (m : Mem) (vs : List View) (s : Story) (l : AllSay g s m vs) (id other : ℕ) (v w : View) (at : At vs id v) (at' : At vs other w) (apart : id ≢ other) (in_use : 1 ≤ v.parts) (only : HasOnlyBlocks w) where
+  abbrev one : View
+  one = joined v w
+
+  -- what a part reads of the views after it
+  abbrev after : (q : Part) → List (Seen q)
+  after q = slice_set (slice_set (map (seen q) vs) id (seen q one)) other (seen q spent)
+
+  sum-same : (q : Part) (f : Seen q → ℕ) → f (seen q one) ≡ f (seen q v) + f (seen q w) → f (seen q spent) ≡ 0 → total f (after q) ≡ total f (map (seen q) vs)
+  sum-same q f both none = omega (arith, total-set_two f (map (seen q) vs) id other (seen q v) (seen q one) (seen q w) (seen q spent) apart (at_map (seen q) vs id v at) (at_map (seen q) vs other w at'), both, none)
+
+  each-after : (q : Part) (P : Seen q → Type 0) → Each P (map (seen q) vs) → P (seen q one) → P (seen q spent) → Each P (after q)
+  each-after q P all first second = each-set P (slice_set (map (seen q) vs) id (seen q one)) other (seen q spent) (each-set P (map (seen q) vs) id (seen q one) all first) second
+
+  places-both : (i c : ℕ) → places g.plan i c (seen pool one) ≡ places g.plan i c (seen pool v) + places g.plan i c (seen pool w)
+  places-both i c =
+      let none : total (λ (r : Place). hit r.superblock r.class i c) w.reserved ≡ 0 = ap (total (λ (r : Place). hit r.superblock r.class i c)) only.reserved in
+      let none' : total (λ (r : Place). hit r.superblock r.class i c) w.debts ≡ 0 = ap (total (λ (r : Place). hit r.superblock r.class i c)) only.debts in
+      omega (arith, total-append (λ (b : Block). hit (superblock_of g.plan b.unit) b.class i c) w.blocks v.blocks, none, none')
+
+  owns-both : (i c b : ℕ) → owns g.plan i c b (seen pool one) ≡ owns g.plan i c b (seen pool v) + owns g.plan i c b (seen pool w)
+  owns-both i c b = omega (arith, total-append (λ (x : Block). hit3 (superblock_of g.plan x.unit) x.class (bit_of g.plan x.unit x.class) i c b) w.blocks v.blocks)
+
+  was_bounded : IsBounded (seen bounds v)
+  was_bounded = l bounds id (seen bounds v) (at_map (seen bounds) vs id v at)
+
+  -- all wins together are as before
+  same_wins : (i c : ℕ) → total (λ (u : Looked). at_place i c u.wins) (after looks) ≡ total (λ (u : Looked). at_place i c u.wins) (map (seen looks) vs)
+  same_wins i c = sum-same looks (λ (u : Looked). at_place i c u.wins) (omega (arith, total-append (λ (r : Place). hit r.superblock r.class i c) w.wins v.wins)) refl
+
+  look-same : (own : List Place) (x : Look) → IsLook g.plan (λ i. m (super i)) (map (seen looks) vs) own x → IsLook g.plan (λ i. m (super i)) (after looks) own x
+  look-same own x = look-kept g.plan (λ i. m (super i)) (λ i. m (super i)) (map (seen looks) vs) (after looks) own own x (omega arith) (omega (arith, same_wins x.superblock (class_of x.word)))
+
+  -- a look of one pass counts the wins of the other, now that they are its own
+  look-both : (u o : View) (x : Look) → ((i c : ℕ) → at_place i c one.wins ≡ at_place i c u.wins + at_place i c o.wins)
+      → IsLook g.plan (λ i. m (super i)) (map (seen looks) vs) u.wins x → IsLook g.plan (λ i. m (super i)) (after looks) one.wins (with_wins o x)
+  look-both u o x both is = record {
+    near = is.near;
+    class_fits = is.class_fits;
+    count = omega (arith, is.count, both x.superblock (class_of x.word), same_wins x.superblock (class_of x.word));
+    ever = is.ever;
+    count_ever = is.count_ever;
+  }
+
+  looks-both : (u o : View) → ((i c : ℕ) → at_place i c one.wins ≡ at_place i c u.wins + at_place i c o.wins) → Each (IsLook g.plan (λ i. m (super i)) (map (seen looks) vs) u.wins) u.looks
+      → Each (IsLook g.plan (λ i. m (super i)) (after looks) one.wins) (map (with_wins o) u.looks)
+  looks-both u o both all k x there =
+      let t = map_at (with_wins o) u.looks k x there in
+      subst (IsLook g.plan (λ i. m (super i)) (after looks) one.wins) t.2 (look-both u o t.0 both (all k t.0 t.1))
+
+  one_looks : Each (IsLook g.plan (λ i. m (super i)) (after looks) one.wins) one.looks
+  one_looks = each-append (IsLook g.plan (λ i. m (super i)) (after looks) one.wins) (map (with_wins w) v.looks) (map (with_wins v) w.looks)
+      (looks-both v w (λ i c. omega (arith, total-append (λ (r : Place). hit r.superblock r.class i c) w.wins v.wins)) (l looks id (seen looks v) (at_map (seen looks) vs id v at)))
+      (looks-both w v (λ i c. omega (arith, total-append (λ (r : Place). hit r.superblock r.class i c) w.wins v.wins)) (l looks other (seen looks w) (at_map (seen looks) vs other w at')))
+
+  joined_parts : (q : Part) → Says g q s m (after q)
+  joined_parts pool = pool-same g.plan (λ i. m (super i)) (bit_in m) (λ u. m (state u)) (map (seen pool) vs) (after pool) (l pool)
+      (λ i c. sum-same pool (places g.plan i c) (places-both i c) refl) (λ i c b. sum-same pool (owns g.plan i c b) (owns-both i c b) refl)
+      (each-after pool (λ (h : Hand). Each (λ (b : Block). IsBlock g.plan b.unit b.class) h.blocks) ((l pool).blocks)
+      (each-append (λ (b : Block). IsBlock g.plan b.unit b.class) w.blocks v.blocks ((l pool).blocks other (seen pool w) (at_map (seen pool) vs other w at')) ((l pool).blocks id (seen pool v) (at_map (seen pool) vs id v at)))
+      (each-none _))
+  joined_parts shares = omega (arith, sum-same shares (λ (n : ℕ). n) (omega arith) refl, l shares)
+  joined_parts bounds = each-after bounds IsBounded (l bounds)
+      (record {
+        few = omega (arith, was_bounded.few, length-append w.taken v.taken, length-append w.calls v.calls);
+        accepted = omega (arith, was_bounded.accepted, length-append w.calls v.calls);
+        single = was_bounded.single;
+        spent = λ none. absurd (omega (arith, none));
+      })
+      (record { few = omega arith; accepted = omega arith; single = omega arith; spent = λ none. omega arith })
+  joined_parts wins = λ i c near. omega (
+    arith,
+    l wins i c near,
+    sum-same wins (λ (u : Won). at_place i c u.wins) (omega (arith, total-append (λ (r : Place). hit r.superblock r.class i c) w.wins v.wins)) refl,
+    sum-same wins (λ (u : Won). at_place i c u.settles) (omega (arith, total-append (λ (r : Place). hit r.superblock r.class i c) w.settles v.settles)) refl,
+  )
+  joined_parts looks = each-after looks (λ (u : Looked). Each (IsLook g.plan (λ i. m (super i)) (after looks) u.wins) u.looks)
+      (λ j u there k x here. look-same u.wins x (l looks j u there k x here)) one_looks (each-none _)
+  joined_parts evers = omega (
+    arith,
+    l evers,
+    sum-same evers (λ (n : ℕ). n)
+        (omega (arith, total-append (λ (b : Block). one_if b.fresh) w.blocks v.blocks, ap length only.reserved, ap unnumbered only.made)) refl,
+  )
+
+  pub joined-says : (q : Part) → Says g q s m (map (seen q) (slice_set (slice_set vs id one) other spent))
+  joined-says q = subst (Says g q s m) (sym (map-set (seen q) (slice_set vs id one) other spent ∙ ap (λ (xs : List (Seen q)). slice_set xs other (seen q spent)) (map-set (seen q) vs id one))) (joined_parts q)
+
+-- a pass may take in one that has nothing but blocks
+pub joins : (g : Setup) (id : ℕ) (v : View) (other : ℕ) (w : View) → 1 ≤ v.parts → HasOnlyBlocks w → Joins (holds_at g) id v other w (joined v w) spent
+joins g id v other w in_use only st holds at apart at' =
+    let two : id ≢ other = λ e. apart (sym e) in (
+      holds.0,
+      (
+        holds.1.0,
+        joined-says g (mem_of g.plan st.words) st.views holds.1.0 holds.1.1 id other v w (found st.views id v at)
+            (sym (slice_get-set_other st.views id other (joined v w) two) ∙ found (slice_set st.views id (joined v w)) other w at') two in_use only,
+      ),
+    )

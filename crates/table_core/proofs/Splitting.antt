@@ -1,0 +1,73 @@
+-- A pass is split in two: the rule is kept.
+use Rattle.std.proofs.Common.{◌≡◌, ◌∙◌, ℕ, ◌-◌, ◌≤◌, List, [], ◌∷◌, ◌++◌, map, refl, sym, ap, subst, arith}
+use Rattle.std.specs.Prelude.{slice_set}
+use Rattle.std.proofs.lemmas.List.{map-set, map-append}
+use Rattle.atomic_table.specs.Table.{Splits}
+use Rattle.record_core.specs.Sums.{total}
+use Rattle.record_core.proofs.TotalFacts.{total-set, total-snoc}
+use Rattle.kt_words.specs.SuperWords.{class_of}
+use Rattle.table_core.specs.Addresses.{Mem, super, state, mem_of}
+use Rattle.table_core.specs.Lists.{At, Each}
+use Rattle.table_core.specs.Holdings.{Block, Look}
+use Rattle.table_core.specs.Story.{Story}
+use Rattle.table_core.specs.Pool.{Hand, IsBlock, places, owns, bit_in}
+use Rattle.table_core.specs.Wins.{Won, Looked, IsLook, at_place}
+use Rattle.table_core.specs.Bounds.{IsBounded}
+use Rattle.table_core.specs.Views.{kept_half, idle_half}
+use Rattle.table_core.specs.Parts.{Part, pool, shares, bounds, wins, looks, evers, Seen, seen, Says, AllSay}
+use Rattle.table_core.specs.declared.setup.Setup.{Setup}
+use Rattle.table_core.specs.declared.view.View.{View}
+use Rattle.table_core.proofs.ListFacts.{found, at_map, each-set, each-append, each-cons, each-none}
+use Rattle.table_core.proofs.PoolFacts.{pool-same}
+use Rattle.table_core.proofs.WinSteps.{look-kept}
+use Rattle.table_core.proofs.Rule.{holds_at}
+
+module _ (g : Setup) (m : Mem) (vs : List View) (s : Story) (l : AllSay g s m vs) (id : ℕ) (v : View) (at : At vs id v) (room : 2 ≤ v.parts) where
+  -- what a part reads of both passes and the others
+  abbrev both : (q : Part) → List (Seen q)
+  both q = slice_set (map (seen q) vs) id (seen q (kept_half v)) ++ seen q (idle_half v) ∷ []
+
+  -- a sum is as before where the first has what it had, and the second nothing
+  sum-same : (q : Part) (f : Seen q → ℕ) → f (seen q (kept_half v)) ≡ f (seen q v) → f (seen q (idle_half v)) ≡ 0 → total f (both q) ≡ total f (map (seen q) vs)
+  sum-same q f same none = omega (
+    arith,
+    total-snoc f (slice_set (map (seen q) vs) id (seen q (kept_half v))) (seen q (idle_half v)),
+    total-set f (map (seen q) vs) id (seen q v) (seen q (kept_half v)) (at_map (seen q) vs id v at),
+    same,
+    none,
+  )
+
+  each-both : (q : Part) (P : Seen q → Type 0) → Each P (map (seen q) vs) → P (seen q (kept_half v)) → P (seen q (idle_half v)) → Each P (both q)
+  each-both q P all first second = each-append P (slice_set (map (seen q) vs) id (seen q (kept_half v))) (seen q (idle_half v) ∷ [])
+      (each-set P (map (seen q) vs) id (seen q (kept_half v)) all first) (each-cons P (seen q (idle_half v)) [] second (each-none P))
+
+  was_bounded : IsBounded (seen bounds v)
+  was_bounded = l bounds id (seen bounds v) (at_map (seen bounds) vs id v at)
+
+  look-split : (own own' : List _) (x : Look) → ((j c : ℕ) → at_place j c own' ≤ at_place j c own)
+      → IsLook g.plan (λ i. m (super i)) (map (seen looks) vs) own x → IsLook g.plan (λ i. m (super i)) (both looks) own' x
+  look-split own own' x fewer = look-kept g.plan (λ i. m (super i)) (λ i. m (super i)) (map (seen looks) vs) (both looks) own own' x (omega arith)
+      (omega (arith, fewer x.superblock (class_of x.word), sum-same looks (λ (u : Looked). at_place x.superblock (class_of x.word) u.wins) refl refl))
+
+  split_parts : (q : Part) → Says g q s m (both q)
+  split_parts pool = pool-same g.plan (λ i. m (super i)) (bit_in m) (λ u. m (state u)) (map (seen pool) vs) (both pool) (l pool)
+      (λ i c. sum-same pool (places g.plan i c) refl refl) (λ i c b. sum-same pool (owns g.plan i c b) refl refl)
+      (each-both pool (λ (h : Hand). Each (λ (b : Block). IsBlock g.plan b.unit b.class) h.blocks) ((l pool).blocks) ((l pool).blocks id (seen pool v) (at_map (seen pool) vs id v at)) (each-none _))
+  split_parts shares =
+      omega (arith, total-snoc (λ (n : ℕ). n) (slice_set (map (seen shares) vs) id (v.parts - 1)) 1, total-set (λ (n : ℕ). n) (map (seen shares) vs) id v.parts (v.parts - 1) (at_map (seen shares) vs id v at), l shares)
+  split_parts bounds = each-both bounds IsBounded (l bounds)
+      (record { few = was_bounded.few; accepted = was_bounded.accepted; single = was_bounded.single; spent = λ none. absurd (omega (arith, none)) })
+      (record { few = omega arith; accepted = omega arith; single = omega arith; spent = λ none. absurd (omega (arith, none)) })
+  split_parts wins = λ i c near. omega (arith, l wins i c near, sum-same wins (λ (u : Won). at_place i c u.wins) refl refl, sum-same wins (λ (u : Won). at_place i c u.settles) refl refl)
+  split_parts looks = each-both looks (λ (u : Looked). Each (IsLook g.plan (λ i. m (super i)) (both looks) u.wins) u.looks)
+      (λ j u at' k x there. look-split u.wins u.wins x (λ j c. omega arith) (l looks j u at' k x there))
+      (λ k x there. look-split v.wins v.wins x (λ j c. omega arith) (l looks id (seen looks v) (at_map (seen looks) vs id v at) k x there))
+      (λ k x there. look-split v.wins [] x (λ j c. omega arith) (l looks id (seen looks v) (at_map (seen looks) vs id v at) k x there))
+  split_parts evers = omega (arith, l evers, sum-same evers (λ (n : ℕ). n) refl refl)
+
+  pub split-says : (q : Part) → Says g q s m (map (seen q) (slice_set vs id (kept_half v) ++ idle_half v ∷ []))
+  split-says q = subst (Says g q s m) (sym (map-append (seen q) (slice_set vs id (kept_half v)) (idle_half v ∷ []) ∙ ap (λ (xs : List (Seen q)). xs ++ seen q (idle_half v) ∷ []) (map-set (seen q) vs id (kept_half v)))) (split_parts q)
+
+-- a pass with two parts or more may be split
+pub splits : (g : Setup) (id : ℕ) (v : View) → 2 ≤ v.parts → Splits (holds_at g) id v (kept_half v) (idle_half v)
+splits g id v room st holds at = (holds.0, (holds.1.0, split-says g (mem_of g.plan st.words) st.views holds.1.0 holds.1.1 id v (found st.views id v at) room))
