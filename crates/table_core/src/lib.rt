@@ -1,8 +1,9 @@
-//! The table that all threads of a run share, as plain data: its words by what they are, the view that each pass has of it,
-//! and the rule that holds between any two atomic steps. Nothing here runs.
+//! The table that all threads of a run share, as plain data: its words by what they are, the view
+//! that each pass has of it, and the rule that holds between any two atomic steps. Nothing here runs.
 //!
-//! `specs/Addresses.antt` says where each word lies, `Views.antt` what a step does to a view, `Story.antt` what has happened.
-//! The rule is a list of parts (`Parts.antt`), each in a file of its own: `Pool.antt`, `Wins.antt`, `Bounds.antt`.
+//! `specs/Addresses.antt` says where each word lies, `Views.antt` what a step does to a view, and
+//! `Story.antt` what has happened. The rule is a list of parts (`Parts.antt`); what they say stands
+//! in `Pool.antt`, `Wins.antt` and `Bounds.antt`.
 #![tactic(auto)]
 
 mod setup;

@@ -10,7 +10,8 @@ use std::marker::Model;
 
 /// What one pass holds and knows. It exists in proofs alone.
 pub struct View {
-    // Its places in the counts of superblocks: reserved, taken by a block, and left by a bit that it cleared.
+    // Its places in the counts of superblocks: reserved, taken by a block, and left by a bit that
+    // it cleared.
     pub ghost reserved: { List Place },
     pub ghost blocks: { List Block },
     pub ghost debts: { List Place },
@@ -24,7 +25,8 @@ pub struct View {
     pub ghost old_looks: { ℕ },
     // The units of the records to which it has references, each as often as it has one.
     pub ghost futures: { List ℕ },
-    // Its own records: made, waiting in no list, running, done and not given up, and at their last reference.
+    // Its own records: made, waiting in no list, running, done and not given up, and at their last
+    // reference.
     pub ghost made: { List Made },
     pub ghost waiting: { List Waiter },
     pub ghost runs: { List Run },
@@ -32,16 +34,19 @@ pub struct View {
     pub ghost retiring: { List ℕ },
     // The lists of waiters that it took.
     pub ghost chains: { List (List ℕ) },
-    // What it knows of words of its own records, the newest first, and of other records under a reference.
+    // What it knows of words of its own records, the newest first, and of other records under a
+    // reference.
     pub ghost known: { List (Addr × ℕ) },
     pub ghost sights: { List Sight },
-    // One member where it has the turn of asking for roots: what is said of each root that was asked for.
+    // One member where it has the turn of asking for roots: what is said of each root that was
+    // asked for.
     pub ghost turn: { List (List RootSays) },
     // So many roots are asked for, as it knows.
     pub ghost asked: { ℕ },
     // The number that was drawn for the root of the turn, until the root is named; 0 for none.
     pub ghost root_task: { ℕ },
-    // Numbers that it drew and that stand in no state word, and the numbers of the activations that it took.
+    // Numbers that it drew and that stand in no state word, and the numbers of the activations that
+    // it took.
     pub ghost drawn: { List Drawn },
     pub ghost taken: { List ℕ },
     // Numbers whose task or predecessor is not yet written, and stamps that are not.
