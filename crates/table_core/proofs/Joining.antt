@@ -7,7 +7,8 @@ use Rattle.record_core.specs.Sums.{total}
 use Rattle.record_core.proofs.TotalFacts.{total-set_two, total-append, slice_get-set_other}
 use Rattle.kt_words.specs.SuperWords.{class_of}
 use Rattle.table_core.specs.Addresses.{Mem, super, state, mem_of}
-use Rattle.table_core.specs.Lists.{At, Each, one_if, hit, hit3}
+use Rattle.record_core.specs.Counting.{At, one_if}
+use Rattle.table_core.specs.Lists.{Each, hit, hit3}
 use Rattle.table_core.specs.Holdings.{Place, Block, Look}
 use Rattle.table_core.specs.Story.{Story}
 use Rattle.table_core.specs.Pool.{Hand, IsBlock, superblock_of, bit_of, places, owns, bit_in}

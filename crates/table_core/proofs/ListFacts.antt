@@ -5,8 +5,11 @@ use lib.ListN.{get_elem?}
 use Rattle.std.specs.Prelude.{slice_set}
 use Rattle.std.proofs.lemmas.Bool.{eq-eqb, eqb-true, and_parts, and_from}
 use Rattle.record_core.specs.Sums.{total}
+use Rattle.record_core.specs.CountLaws.{HasPassing}
+use Rattle.record_core.proofs.CountFacts.{total-dropped}
 use Rattle.record_core.proofs.TotalFacts.{total-member}
-use Rattle.table_core.specs.Lists.{At, Has, Each, dropped}
+use Rattle.record_core.specs.Counting.{At, Has, dropped}
+use Rattle.table_core.specs.Lists.{Each}
 use Rattle.table_core.specs.Holdings.{Place, Block}
 use Rattle.table_core.specs.Views.{is_place, same_bool, is_block}
 
@@ -79,22 +82,10 @@ module _ {A : Type 0} where
       by true rest = each-tail P x l all
       by false rest = each-cons P x (dropped p l) (all 0 x refl) rest
 
-  -- a member that passes is dropped: its weight, which all that pass have, is gone
-  pub total-dropped : (f : A → ℕ) (p : A → Bool) (l : List A) (n : ℕ) → ((y : A) → p y ≡ true → f y ≡ n) → (x : A) → Has x l → p x ≡ true
-      → total f (dropped p l) + n ≡ total f l
-  total-dropped f p [] n same x has passes = absurd (none_at x has.1)
-  total-dropped f p (y ∷ l) n same x has passes = by (p y) refl (λ k at. total-dropped f p l n same x (k, at) passes) has.0 has.1
-    where
-      by : (b : Bool) → p y ≡ b → ((k : ℕ) → At l k x → total f (dropped p l) + n ≡ total f l) → (k : ℕ) → At (y ∷ l) k x
-          → total f (cond b l (y ∷ dropped p l)) + n ≡ f y + total f l
-      by true e rest k at = omega (arith, same y e)
-      by false e rest zero at = absurd (true≢false (sym passes ∙ ap p (sym (same_some y x at)) ∙ e))
-      by false e rest (suc k) at = omega (arith, rest k at)
-
-  -- the same where only x passes
+  -- where only x passes, its weight goes with it
   pub dropped-one : (p : A → Bool) (x : A) → ((y : A) → p y ≡ true → y ≡ x) → p x ≡ true → (f : A → ℕ) (l : List A) → Has x l
       → total f (dropped p l) + f x ≡ total f l
-  dropped-one p x only passes f l has = total-dropped f p l (f x) (λ y e. ap f (only y e)) x has passes
+  dropped-one p x only passes f l has = total-dropped f p (f x) l (λ k y at e. ap f (only y e)) (record { member = x; there = has; passes = passes })
 
   -- a list of which a member is dropped is shorter by one
   pub length-dropped-has : (p : A → Bool) (l : List A) (x : A) → Has x l → p x ≡ true → length (dropped p l) + 1 ≡ length l
@@ -106,14 +97,6 @@ module _ {A : Type 0} where
       by true e rest k at = omega arith
       by false e rest zero at = absurd (true≢false (sym passes ∙ ap p (sym (same_some y x at)) ∙ e))
       by false e rest (suc k) at = omega (arith, rest k at)
-
-  pub length-dropped : (p : A → Bool) (l : List A) → length (dropped p l) ≤ length l
-  length-dropped p [] = omega arith
-  length-dropped p (x ∷ l) = by (p x) (length-dropped p l)
-    where
-      by : (b : Bool) → length (dropped p l) ≤ length l → length (cond b l (x ∷ dropped p l)) ≤ suc (length l)
-      by true rest = omega arith
-      by false rest = omega arith
 
   pub at_map : {B : Type 0} (f : A → B) (l : List A) (k : ℕ) (x : A) → At l k x → At (map f l) k (f x)
   at_map f [] k x at = absurd (none_at x at)

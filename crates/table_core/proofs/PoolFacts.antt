@@ -11,7 +11,8 @@ use Rattle.kt_words.specs.declared.plan.Plan.{Plan}
 use Rattle.kt_words.specs.Capacity.{block_units}
 use Rattle.kt_words.specs.SuperWords.{class_of}
 use Rattle.kt_words.proofs.GeometryFacts.{blocks_fill, blocks_end_inside, unit_names_place}
-use Rattle.table_core.specs.Lists.{At, Each, hit, hit3}
+use Rattle.record_core.specs.Counting.{At}
+use Rattle.table_core.specs.Lists.{Each, hit, hit3}
 use Rattle.table_core.specs.Holdings.{Block}
 use Rattle.table_core.specs.Pool.{cap, unit_of, superblock_of, bit_of, IsBlock, is_used, Hand, places, owns, records, used_at, held, owned, IsKept, PoolSound}
 use Rattle.table_core.proofs.ListFacts.{each-set}

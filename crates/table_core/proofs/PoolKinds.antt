@@ -8,11 +8,12 @@ use Rattle.std.proofs.lemmas.Bool.{cases_eq, eq-eqb, ne_eqb}
 use Rattle.atomic_table.proofs.Lists.{exchanged}
 use Rattle.record_core.specs.Sums.{total}
 use Rattle.record_core.proofs.TotalFacts.{total-map, total-set, total-member}
-use Rattle.kt_words.specs.SuperWords.{count_of, class_of, ever_of, risen}
-use Rattle.kt_words.specs.SuperWordLaws.{SuperWordSays, reserved_word}
+use Rattle.kt_words.specs.SuperWords.{count_of, class_of, ever_of, risen, reserved_word}
+use Rattle.kt_words.specs.SuperWordLaws.{SuperWordSays}
 use Rattle.kt_words.proofs.SuperWordFacts.{word_reserves, count_falls}
 use Rattle.table_core.specs.Addresses.{Addr, Mem, super, bits, state, put}
-use Rattle.table_core.specs.Lists.{At, Has, Each, one_if, hit}
+use Rattle.record_core.specs.Counting.{At, Has, one_if}
+use Rattle.table_core.specs.Lists.{Each, hit}
 use Rattle.table_core.specs.Holdings.{Place, Block}
 use Rattle.table_core.specs.Story.{Story, tasks_in}
 use Rattle.table_core.specs.Pool.{cap, superblock_of, bit_of, Hand, PoolSound, bit_in}

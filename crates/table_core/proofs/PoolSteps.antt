@@ -9,7 +9,8 @@ use Rattle.kt_words.specs.Capacity.{block_units}
 use Rattle.kt_words.specs.SuperWords.{count_of, class_of, ever_of, risen}
 use Rattle.kt_words.specs.SuperWordLaws.{SuperWordSays}
 use Rattle.kt_words.proofs.GeometryFacts.{blocks_fill}
-use Rattle.table_core.specs.Lists.{At, Has, Each, hit, hit3, dropped}
+use Rattle.record_core.specs.Counting.{At, Has, dropped}
+use Rattle.table_core.specs.Lists.{Each, hit, hit3}
 use Rattle.table_core.specs.Holdings.{Place, Block}
 use Rattle.table_core.specs.Pool.{cap, unit_of, superblock_of, bit_of, IsBlock, is_used, Hand, places, owns, records, used_at, held, owned, IsKept, PoolSound}
 use Rattle.table_core.specs.Views.{place, block, is_place, is_block}

@@ -5,7 +5,7 @@ use Rattle.std.proofs.lemmas.List.{map-set}
 use Rattle.atomic_table.specs.Table.{State, Me, Act, Allows, Splits, Joins}
 use Rattle.atomic_table.specs.Table as table
 use Rattle.table_core.specs.Addresses.{Addr, Mem, address, is_there, mem_of, put}
-use Rattle.table_core.specs.Lists.{At}
+use Rattle.record_core.specs.Counting.{At}
 use Rattle.table_core.specs.Story.{Story}
 use Rattle.table_core.specs.Parts.{Part, seen, Says, Lawful, Holds, Keeps}
 use Rattle.table_core.specs.declared.setup.Setup.{Setup}

@@ -7,7 +7,8 @@ use Rattle.record_core.specs.Sums.{total}
 use Rattle.record_core.proofs.TotalFacts.{total-set, total-snoc}
 use Rattle.kt_words.specs.SuperWords.{class_of}
 use Rattle.table_core.specs.Addresses.{Mem, super, state, mem_of}
-use Rattle.table_core.specs.Lists.{At, Each}
+use Rattle.record_core.specs.Counting.{At}
+use Rattle.table_core.specs.Lists.{Each}
 use Rattle.table_core.specs.Holdings.{Block, Look}
 use Rattle.table_core.specs.Story.{Story}
 use Rattle.table_core.specs.Pool.{Hand, IsBlock, places, owns, bit_in}

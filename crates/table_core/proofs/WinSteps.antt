@@ -8,7 +8,8 @@ use Rattle.record_core.proofs.BelowFacts.{below-set}
 use Rattle.kt_words.specs.declared.plan.Plan.{Plan}
 use Rattle.kt_words.specs.SuperWords.{count_of, class_of, ever_of, risen}
 use Rattle.kt_words.specs.SuperWordLaws.{SuperWordSays}
-use Rattle.table_core.specs.Lists.{At, Each, hit}
+use Rattle.record_core.specs.Counting.{At}
+use Rattle.table_core.specs.Lists.{Each, hit}
 use Rattle.table_core.specs.Holdings.{Place, Look}
 use Rattle.table_core.specs.Wins.{Won, at_place, WinsSound, Looked, IsLook, LooksSound, EversSound}
 use Rattle.table_core.specs.Views.{place}

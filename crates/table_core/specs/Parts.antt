@@ -3,7 +3,8 @@
 use Rattle.std.specs.Prelude.{◌≡◌, ℕ, ◌+◌, ◌<◌, List, map, length, slice_get, slice_set, Some, cond, ◌==◌}
 use Rattle.record_core.specs.Sums.{total}
 use Rattle.table_core.specs.Addresses.{Addr, Mem, super, state, put, words_of, mem_of}
-use Rattle.table_core.specs.Lists.{Each, one_if}
+use Rattle.record_core.specs.Counting.{one_if}
+use Rattle.table_core.specs.Lists.{Each}
 use Rattle.table_core.specs.Holdings.{Block, Made}
 use Rattle.table_core.specs.Story.{Story, tasks_in}
 use Rattle.table_core.specs.Pool.{Hand, PoolSound, bit_in}

@@ -6,7 +6,8 @@ use Rattle.kt_words.specs.Capacity.{block_units, capacity}
 use Rattle.kt_words.specs.SuperWords.{count_of, class_of, ever_of}
 use Rattle.kt_words.specs.StateWords.{phase_of}
 use Rattle.table_core.specs.Addresses.{Mem, bits, units_of}
-use Rattle.table_core.specs.Lists.{Each, one_if, hit, hit3}
+use Rattle.record_core.specs.Counting.{one_if}
+use Rattle.table_core.specs.Lists.{Each, hit, hit3}
 use Rattle.table_core.specs.Holdings.{Place, Block}
 
 -- how many blocks of a class a superblock holds

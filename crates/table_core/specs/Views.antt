@@ -3,7 +3,7 @@ use Rattle.std.specs.Prelude.{◌≡◌, ℕ, ◌+◌, ◌-◌, [], ◌∷◌, �
 use Rattle.kt_words.specs.declared.plan.Plan.{Plan}
 use Rattle.kt_words.specs.SuperWords.{class_of}
 use Rattle.table_core.specs.Addresses.{Addr}
-use Rattle.table_core.specs.Lists.{one_if, dropped}
+use Rattle.record_core.specs.Counting.{one_if, dropped}
 use Rattle.table_core.specs.Holdings.{Place, Block, Look}
 use Rattle.table_core.specs.Pool.{unit_of, superblock_of}
 use Rattle.table_core.specs.Wins.{at_place}
