@@ -21,7 +21,7 @@ use Rattle.table_core.specs.Wins.{Won, Looked, IsLook, at_place, WinsSound}
 use Rattle.table_core.specs.Bounds.{Held, IsBounded}
 use Rattle.table_core.specs.Views.{place, is_place, saw, look_of, looked, reserved, claimed, cleared, settled}
 use Rattle.table_core.specs.Steps.{Tried, WonBit}
-use Rattle.table_core.specs.Parts.{Part, pool, bounds, wins, looks, evers, seen, Says, AllSay, Lawful, Keeps}
+use Rattle.table_core.specs.Parts.{Part, pool, shares, bounds, wins, looks, evers, seen, Says, AllSay, Lawful, Keeps}
 use Rattle.table_core.specs.declared.setup.Setup.{Setup}
 use Rattle.table_core.specs.declared.view.View.{View}
 use Rattle.table_core.proofs.ListFacts.{at_map, each-set, each-cons, dropped-block, length-dropped-has, place-passes, total-has}
@@ -308,3 +308,9 @@ module _ (g : Setup) (id : ℕ) (v : View) where
     refl,
     refl,
   )
+
+  -- a load of any word, which tells that no pass has more than all parts
+  pub glances-at : (a : Addr) → Keeps g id v a (λ n. n) (λ r w. (w ≡ saw a r v) × (v.parts ≤ 4096))
+  glances-at a m vs s l at small =
+      let mine : v.parts ≤ total (λ (n : ℕ). n) (map (seen shares) vs) = total-member (λ (n : ℕ). n) (map (seen shares) vs) id v.parts (at_map (seen shares) vs id v at) in
+      (saw a (m a) v, kept_word g m a (m a) _ refl (sees a (m a) m vs s l at), (refl, omega (arith, mine, l shares)), refl)

@@ -1,0 +1,57 @@
+-- A kind of step that keeps the rule may be made on the table.
+use Rattle.std.proofs.Common.{◌≡◌, ◌∙◌, ◌⊎◌, inl, inr, ℕ, ◌/◌, ◌<◌, ◌≤◌, true, ap, arith}
+use Rattle.kt_words.specs.declared.plan.Plan.{Plan}
+use Rattle.atomic_table.specs.Table.{Me, Allows}
+use Rattle.table_core.specs.Addresses.{Addr, super, bits, is_there, words_of}
+use Rattle.kt_words.specs.Capacity.{block_units}
+use Rattle.kt_words.specs.SuperWords.{FitsSuperWord, packed_super, class_of, count_of}
+use Rattle.kt_words.specs.SuperWordLaws.{SuperWordSays}
+use Rattle.kt_words.specs.declared.super_word.SuperWord.{SuperWord}
+use Rattle.kt_words.proofs.SuperWordFacts.{super_word_says_its_value}
+use Rattle.table_core.specs.Pool.{cap, superblock_of, bit_of, IsBlock}
+use Rattle.table_core.specs.Parts.{Keeps}
+use Rattle.table_core.proofs.PoolFacts.{superblock_near, bit_below}
+use Rattle.std.proofs.Math.Nat.{div-le_self}
+use Rattle.table_core.specs.declared.setup.Setup.{Setup}
+use Rattle.table_core.specs.declared.view.View.{View}
+use Rattle.table_core.proofs.AddressFacts.{address-in, there_from}
+use Rattle.table_core.proofs.Rule.{Tells, holds_at, allows}
+use Rattle.step_table.specs.Seats.{LiesAt}
+use Rattle.step_table.specs.Passes.{TakesOne}
+
+pub may_step : (g key : Setup) (words slots id word : ℕ) (me : Me (Unit {0}) View) (a : Addr) (f : ℕ → ℕ) (told : ℕ → View → Type 0)
+    → key ≡ g → words ≡ words_of g.plan → LiesAt g.plan a word → Keeps g id me.0 a f told
+    → (word < words) × Allows (holds_at key) slots id me word f (Tells told me)
+may_step g key words slots id word me a f told keyed sized lies keeps =
+    (omega (arith, lies.place, sized, address-in g.plan a lies.there), allows g key slots id word me a f told keyed lies.place lies.there keeps)
+
+-- the words of the pool are there
+pub super-there : (g : Plan) (i : ℕ) → i < g.geometry.superblocks → is_there g (super i) ≡ true
+super-there g i near = there_from g (super i) near (omega arith)
+
+pub bits-there : (g : Plan) (i b : ℕ) → i < g.geometry.superblocks → b < g.geometry.units → is_there g (bits i (b / 64)) ≡ true
+bits-there g i b near below = there_from g (bits i (b / 64)) near (omega (arith, below))
+
+-- a block's bit is one of its superblock's
+pub cap-units : (g : Plan) (c : ℕ) → cap g c ≤ g.geometry.units
+cap-units g c = div-le_self g.geometry.units (block_units c)
+
+pub block-there : (g : Plan) (u c : ℕ) → IsBlock g u c → is_there g (bits (superblock_of g u) (bit_of g u c / 64)) ≡ true
+block-there g u c is = bits-there g (superblock_of g u) (bit_of g u c) (superblock_near g u c is) (omega (arith, bit_below g u c is, cap-units g c))
+
+-- what room in a superblock says of its word
+pub takes-one : (g : Plan) (word : SuperWord) (c old : ℕ) → FitsSuperWord word → TakesOne g word c → old ≡ packed_super word
+    → ((class_of old ≡ c) ⊎ (count_of old ≡ 0)) × (count_of old < cap g c)
+takes-one g word c old fits takes e = (which takes.of_class, omega (arith, count_is, takes.room))
+  where
+    says : SuperWordSays (packed_super word) word.count word.class word.ever
+    says = (super_word_says_its_value word fits).0
+    count_is : count_of old ≡ word.count
+    count_is = ap count_of e ∙ says.count_is
+    which : (word.class ≡ c) ⊎ (word.count ≡ 0) → (class_of old ≡ c) ⊎ (count_of old ≡ 0)
+    which (inl same) = inl (ap class_of e ∙ says.class_is ∙ same)
+    which (inr none) = inr (count_is ∙ none)
+
+-- a table has words
+pub some-words : (g : Plan) (words : ℕ) → words ≡ words_of g → 0 < words
+some-words g words sized = omega (arith, sized, g.geometry.superblocks_fit)

@@ -1,0 +1,18 @@
+-- What a step on one word needs of the word and leaves of the seat.
+use Rattle.std.specs.Prelude.{◌≡◌, ℕ, true}
+use Rattle.atomic_table.specs.declared.shared.Seat.{Seat}
+use Rattle.kt_words.specs.declared.plan.Plan.{Plan}
+use Rattle.table_core.specs.Addresses.{Addr, address, is_there}
+use Rattle.table_core.specs.declared.view.View.{View}
+
+-- the seat of the same pass, which may hold and know something else
+pub record IsSameSeat (old new : Seat (Unit {0}) View) : Type 0 where
+  pub table : new.table_id ≡ old.table_id
+  pub id : new.id ≡ old.id
+  pub parts : new.me.0.parts ≡ old.me.0.parts
+  pub bare : new.me.1 ≡ old.me.1
+
+-- the word lies at this address
+pub record LiesAt (g : Plan) (a : Addr) (word : ℕ) : Type 0 where
+  pub place : word ≡ address g a
+  pub there : is_there g a ≡ true

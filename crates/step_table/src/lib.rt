@@ -1,0 +1,22 @@
+//! The table that all threads of a run share, and single atomic steps on it. Each step keeps the rule
+//! of `table_core`, so that the rule holds between any two steps of any number of threads.
+//!
+//! `shared.rt` and `pass.rt` are the table and a thread's part in it; `raw.rt` has one function for
+//! each atomic operation; the other files have one call for each kind of step.
+#![tactic(auto)]
+
+mod halves;
+mod layout;
+mod making;
+mod order;
+mod pass;
+mod passes;
+mod pool;
+mod raw;
+mod shared;
+mod told;
+mod tokens;
+
+pub use pass::Pass;
+pub use shared::Shared;
+pub use tokens::{Block, Debt, Reserved};

@@ -1,0 +1,58 @@
+//! Passes are split and joined.
+ghost use Rattle.std.specs.Prelude.{◌≡◌, ◌+◌, ◌<◌, ℕ};
+ghost use Rattle.table_core.specs.Addresses.{super};
+ghost use Rattle.table_core.specs.Views.{kept_half, idle_half, joined, saw, HasOnlyBlocks};
+
+use crate::halves::Halves;
+use crate::layout::super_word;
+use crate::pass::Pass;
+use crate::shared::Shared;
+use std::marker::Brand;
+
+impl Shared {
+    ghost use Rattle.step_table.specs.Passes.{view, IsOf};
+
+    /// Two passes of one: the first keeps what the pass holds, the second holds nothing. Both know
+    /// what the pass has seen.
+    pub fn split(&self, pass: Pass) -> (Pass, Pass)
+        requires table { IsOf self.now pass }
+        requires splits { 0 < pass.splits }
+        ensures table { IsOf self.now result.0 × IsOf self.now result.1 }
+        ensures views { (view result.0 ≡ kept_half (view pass)) × (view result.1 ≡ idle_half (view pass)) }
+        ensures splits { (result.0.splits + 1 ≡ pass.splits) × (result.1.splits ≡ 0) }
+    {
+        let Pass { mut seat, splits } = pass;
+        let second = self.table.shared.split_seat::<Halves>(&mut seat);
+        let first = Pass {
+            seat,
+            splits: splits - 1,
+        };
+        let second = Pass {
+            seat: second,
+            splits: 0,
+        };
+        (first, second)
+    }
+
+    /// One pass of two: it has the blocks of both and knows what both have seen. The second pass may
+    /// hold nothing but blocks.
+    pub fn join(&self, keep: Pass, other: Pass) -> Pass
+        requires table { IsOf self.now keep × IsOf self.now other }
+        requires other { HasOnlyBlocks (view other) }
+        ensures table { IsOf self.now result }
+        ensures view { (n : ℕ) × (view result ≡ saw (super 0) n (joined (view keep) (view other))) }
+        ensures splits { result.splits ≡ keep.splits + other.splits + 1 }
+    {
+        let Pass { mut seat, splits } = keep;
+        let Pass {
+            seat: other,
+            splits: more,
+        } = other;
+        self.table.shared.join_seat::<Halves>(&mut seat, other);
+        self.load_as::<Brand, _>(&mut seat, super_word(&self.setup.plan, 0), &());
+        Pass {
+            seat,
+            splits: splits + more + 1,
+        }
+    }
+}

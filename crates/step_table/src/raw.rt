@@ -1,0 +1,95 @@
+//! One function for each atomic operation on one word. What a step tells is picked where it is made.
+ghost use Rattle.std.specs.Prelude.{◌≡◌, ◌+◌, ◌-◌, ◌%◌, ◌^◌, ◌==◌, bit_and, bit_or};
+ghost use prog.Atomic.{either};
+ghost use Rattle.table_core.specs.Parts.{Keeps};
+
+use crate::shared::Shared;
+use crate::told::{Told, Wish};
+use atomic_table::Seat;
+use table_core::View;
+
+impl Shared {
+    ghost use Rattle.step_table.specs.Seats.{IsSameSeat, LiesAt};
+
+    pub(crate) fn load_as<W: Wish, A>(
+        &self,
+        seat: &mut Seat<(), View>,
+        word: usize,
+        _about: &A,
+    ) -> u64
+        requires table { seat.old.table_id ≡ self.now.table.shared.table_id }
+        requires word { LiesAt self.now.setup.plan W.at word }
+        requires rule { Keeps self.now.setup seat.old.id seat.old.me.0 W.at (λ n. n) W.told }
+        ensures same { IsSameSeat seat.old seat.new }
+        ensures told { W.told result seat.new.me.0 }
+    {
+        self.table.shared.load::<Told<W>>(seat, word)
+    }
+
+    pub(crate) fn compare_exchange_as<W: Wish, A>(
+        &self,
+        seat: &mut Seat<(), View>,
+        word: usize,
+        old: u64,
+        new: u64,
+        _about: &A,
+    ) -> u64
+        requires table { seat.old.table_id ≡ self.now.table.shared.table_id }
+        requires word { LiesAt self.now.setup.plan W.at word }
+        requires rule { Keeps self.now.setup seat.old.id seat.old.me.0 W.at (λ n. either (n == old) new n) W.told }
+        ensures same { IsSameSeat seat.old seat.new }
+        ensures told { W.told result seat.new.me.0 }
+    {
+        self.table
+            .shared
+            .compare_exchange::<Told<W>>(seat, word, old, new)
+    }
+
+    pub(crate) fn fetch_or_as<W: Wish, A>(
+        &self,
+        seat: &mut Seat<(), View>,
+        word: usize,
+        mask: u64,
+        _about: &A,
+    ) -> u64
+        requires table { seat.old.table_id ≡ self.now.table.shared.table_id }
+        requires word { LiesAt self.now.setup.plan W.at word }
+        requires rule { Keeps self.now.setup seat.old.id seat.old.me.0 W.at (λ n. bit_or n mask) W.told }
+        ensures same { IsSameSeat seat.old seat.new }
+        ensures told { W.told result seat.new.me.0 }
+    {
+        self.table.shared.fetch_or::<Told<W>>(seat, word, mask)
+    }
+
+    pub(crate) fn fetch_and_as<W: Wish, A>(
+        &self,
+        seat: &mut Seat<(), View>,
+        word: usize,
+        mask: u64,
+        _about: &A,
+    ) -> u64
+        requires table { seat.old.table_id ≡ self.now.table.shared.table_id }
+        requires word { LiesAt self.now.setup.plan W.at word }
+        requires rule { Keeps self.now.setup seat.old.id seat.old.me.0 W.at (λ n. bit_and n mask) W.told }
+        ensures same { IsSameSeat seat.old seat.new }
+        ensures told { W.told result seat.new.me.0 }
+    {
+        self.table.shared.fetch_and::<Told<W>>(seat, word, mask)
+    }
+
+    pub(crate) fn fetch_sub_as<W: Wish, A>(
+        &self,
+        seat: &mut Seat<(), View>,
+        word: usize,
+        k: u64,
+        _about: &A,
+    ) -> u64
+        requires table { seat.old.table_id ≡ self.now.table.shared.table_id }
+        requires word { LiesAt self.now.setup.plan W.at word }
+        requires rule { Keeps self.now.setup seat.old.id seat.old.me.0 W.at (λ n. (n + (2 ^ 64 - k)) % 2 ^ 64) W.told }
+        ensures same { IsSameSeat seat.old seat.new }
+        ensures told { W.told result seat.new.me.0 }
+    {
+        self.table.shared.fetch_sub::<Told<W>>(seat, word, k)
+    }
+}

@@ -1,0 +1,30 @@
+ghost use Rattle.std.specs.Prelude.{◌≡◌, ℕ};
+ghost use Rattle.table_core.specs.Addresses.{Addr, super};
+ghost use Rattle.table_core.specs.declared.view.View.{View};
+
+use atomic_table::Play;
+use std::marker::{Brand, PhantomData};
+use table_core::View;
+
+/// The word of one step, and what the step tells of the number found and of the view after it. The
+/// proof of each call picks it.
+pub trait Wish {
+    ghost at: { Addr };
+
+    ghost told: { ℕ → View → Type 0 };
+}
+
+impl Wish for Brand {
+    ghost at = { super 0 };
+
+    ghost told = { λ found new. Unit {0} };
+}
+
+/// A step that tells what is wished for.
+pub struct Told<W: Wish> {
+    marker: PhantomData<W>,
+}
+
+impl<W: Wish> Play<(), View> for Told<W> {
+    ghost then = { λ step old found new. W.told found new.0 × (new.0.parts ≡ old.0.parts) × (new.1 ≡ old.1) };
+}
