@@ -10,12 +10,13 @@ use Rattle.kt_words.specs.declared.super_word.SuperWord.{SuperWord}
 use Rattle.kt_words.proofs.SuperWordFacts.{super_word_says_its_value}
 use Rattle.table_core.specs.Pool.{cap, superblock_of, bit_of, IsBlock}
 use Rattle.table_core.specs.Parts.{Keeps}
+use Rattle.table_core.specs.Steps.{Tells}
 use Rattle.table_core.proofs.PoolFacts.{superblock_near, bit_below}
 use Rattle.std.proofs.Math.Nat.{div-le_self}
 use Rattle.table_core.specs.declared.setup.Setup.{Setup}
 use Rattle.table_core.specs.declared.view.View.{View}
 use Rattle.table_core.proofs.AddressFacts.{address-in, there_from}
-use Rattle.table_core.proofs.Rule.{Tells, holds_at, allows}
+use Rattle.table_core.proofs.Rule.{holds_at, allows}
 use Rattle.step_table.specs.Seats.{LiesAt}
 use Rattle.step_table.specs.Passes.{TakesOne}
 
@@ -46,8 +47,10 @@ takes-one g word c old fits takes e = (which takes.of_class, omega (arith, count
   where
     says : SuperWordSays (packed_super word) word.count word.class word.ever
     says = (super_word_says_its_value word fits).0
+
     count_is : count_of old ≡ word.count
     count_is = ap count_of e ∙ says.count_is
+
     which : (word.class ≡ c) ⊎ (word.count ≡ 0) → (class_of old ≡ c) ⊎ (count_of old ≡ 0)
     which (inl same) = inl (ap class_of e ∙ says.class_is ∙ same)
     which (inr none) = inr (count_is ∙ none)

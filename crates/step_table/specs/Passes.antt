@@ -3,10 +3,11 @@ use Rattle.std.specs.Prelude.{◌≡◌, ℕ, ◌<◌, ◌≤◌, ◌⊎◌, Lis
 use Rattle.record_core.specs.Counting.{Has}
 use Rattle.kt_words.specs.declared.plan.Plan.{Plan}
 use Rattle.kt_words.specs.declared.super_word.SuperWord.{SuperWord}
+use Rattle.task_syntax.specs.declared.program.Program.{Program}
+use Rattle.task_syntax.specs.declared.columns.Columns.{Columns}
 use Rattle.table_core.specs.Holdings.{Place, Block as BlockOf}
 use Rattle.table_core.specs.Views.{place, block}
 use Rattle.table_core.specs.Pool.{cap, IsBlock}
-use Rattle.table_core.specs.declared.setup.Setup.{Setup}
 use Rattle.table_core.specs.declared.view.View.{View}
 use Rattle.step_table.specs.declared.pass.Pass.{Pass}
 use Rattle.step_table.specs.declared.tokens.Reserved.{Reserved}
@@ -19,6 +20,12 @@ view p = p.seat.me.0
 
 abbrev pub plan : Shared → Plan
 plan t = t.setup.plan
+
+-- what the table was made with
+pub record IsMadeWith (t : Shared) (checked : Program) (columns : Columns) (plan : Plan) : Type 0 where
+  pub checked_is : t.setup.checked ≡ checked
+  pub columns_is : t.setup.columns ≡ columns
+  pub plan_is : t.setup.plan ≡ plan
 
 -- the pass is one of the table
 abbrev pub IsOf : Shared → Pass → Type 0

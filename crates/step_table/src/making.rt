@@ -11,7 +11,7 @@ use table_core::Setup;
 use task_syntax::{Checked, Columns};
 
 impl Shared {
-    ghost use Rattle.step_table.specs.Passes.{view, IsOf};
+    ghost use Rattle.step_table.specs.Passes.{view, IsOf, IsMadeWith};
 
     /// A table with its first pass: no block is taken, no record made, and no call accepted. While
     /// it is made it takes twice the memory that it keeps.
@@ -22,7 +22,7 @@ impl Shared {
         plan: Plan,
     ) -> Result<(Shared, Pass), AllocError>
         requires roots { plan.roots ≡ length checked.roots }
-        ensures setup { IfOk result (λ made. (made.0.setup.checked ≡ checked) × (made.0.setup.columns ≡ columns) × (made.0.setup.plan ≡ plan)) }
+        ensures setup { IfOk result (λ made. IsMadeWith made.0 checked columns plan) }
         ensures pass { IfOk result (λ made. IsOf made.0 made.1 × (view made.1 ≡ first_view)) }
         ensures splits { IfOk result (λ made. made.1.splits ≡ 4095) }
     {

@@ -1,7 +1,6 @@
 //! Passes are split and joined.
-ghost use Rattle.std.specs.Prelude.{◌≡◌, ◌+◌, ◌<◌, ℕ};
-ghost use Rattle.table_core.specs.Addresses.{super};
-ghost use Rattle.table_core.specs.Views.{kept_half, idle_half, joined, saw, HasOnlyBlocks};
+ghost use Rattle.std.specs.Prelude.{◌≡◌, ◌+◌, ◌<◌};
+ghost use Rattle.table_core.specs.Views.{kept_half, idle_half, HasOnlyBlocks};
 
 use crate::halves::Halves;
 use crate::layout::super_word;
@@ -11,6 +10,7 @@ use std::marker::Brand;
 
 impl Shared {
     ghost use Rattle.step_table.specs.Passes.{view, IsOf};
+    ghost use Rattle.step_table.specs.Steps.{Joins};
 
     /// Two passes of one: the first keeps what the pass holds, the second holds nothing. Both know
     /// what the pass has seen.
@@ -18,7 +18,8 @@ impl Shared {
         requires table { IsOf self.now pass }
         requires splits { 0 < pass.splits }
         ensures table { IsOf self.now result.0 × IsOf self.now result.1 }
-        ensures views { (view result.0 ≡ kept_half (view pass)) × (view result.1 ≡ idle_half (view pass)) }
+        ensures first { view result.0 ≡ kept_half (view pass) }
+        ensures second { view result.1 ≡ idle_half (view pass) }
         ensures splits { (result.0.splits + 1 ≡ pass.splits) × (result.1.splits ≡ 0) }
     {
         let Pass { mut seat, splits } = pass;
@@ -34,13 +35,13 @@ impl Shared {
         (first, second)
     }
 
-    /// One pass of two: it has the blocks of both and knows what both have seen. The second pass may
-    /// hold nothing but blocks.
+    /// One pass of two: it has the blocks of both and knows what both have seen. The second pass
+    /// may hold nothing but blocks.
     pub fn join(&self, keep: Pass, other: Pass) -> Pass
         requires table { IsOf self.now keep × IsOf self.now other }
         requires other { HasOnlyBlocks (view other) }
         ensures table { IsOf self.now result }
-        ensures view { (n : ℕ) × (view result ≡ saw (super 0) n (joined (view keep) (view other))) }
+        ensures view { Joins (view keep) (view other) (view result) }
         ensures splits { result.splits ≡ keep.splits + other.splits + 1 }
     {
         let Pass { mut seat, splits } = keep;

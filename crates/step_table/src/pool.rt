@@ -1,10 +1,7 @@
 //! The steps of the pool.
-ghost use Rattle.std.specs.Prelude.{◌≡◌, ◌≢◌, ℕ, ◌/◌, ◌%◌, ◌<◌, ◌≤◌, true, IfOk, IfErr};
-ghost use Rattle.std.specs.Int.{bit_at};
-ghost use Rattle.kt_words.specs.SuperWords.{FitsSuperWord, packed_super};
-ghost use Rattle.table_core.specs.Addresses.{super, bits};
-ghost use Rattle.table_core.specs.Pool.{cap, unit_of, superblock_of, bit_of};
-ghost use Rattle.table_core.specs.Views.{place, block, saw, looked, reserved, claimed, cleared, settled, released};
+ghost use Rattle.std.specs.Prelude.{◌<◌, ◌≤◌, IfOk, IfErr};
+ghost use Rattle.kt_words.specs.SuperWords.{FitsSuperWord};
+ghost use Rattle.table_core.specs.Pool.{cap};
 
 use crate::layout::{bit_word, super_word};
 use crate::pass::Pass;
@@ -15,6 +12,7 @@ use std::marker::Brand;
 
 impl Shared {
     ghost use Rattle.step_table.specs.Passes.{view, plan, IsOf, IsSame, place_of, owed_by, block_of, HasPlace, HasBlock, TakesOne};
+    ghost use Rattle.step_table.specs.Steps.{Looks, Reserves, FindsOther, Claims, FindsSet, Clears, Settles, Releases};
 
     /// Loads the word of a superblock. The pass keeps it as a look for this class.
     pub fn look(&self, pass: &mut Pass, superblock: u32, class: u8) -> SuperWord
@@ -23,7 +21,7 @@ impl Shared {
         requires class { class ≤ 3 }
         ensures pass { IsSame pass.old pass.new }
         ensures word { FitsSuperWord result }
-        ensures view { view pass.new ≡ saw (super superblock) (packed_super result) (looked superblock class (packed_super result) (view pass.old)) }
+        ensures view { Looks superblock class (view pass.old) result (view pass.new) }
     {
         let word = super_word(&self.setup.plan, superblock);
         let found = self.load_as::<Brand, _>(&mut pass.seat, word, &(superblock, class));
@@ -45,8 +43,8 @@ impl Shared {
         requires seen { FitsSuperWord seen }
         requires room { TakesOne (plan self.now) seen class }
         ensures pass { IsSame pass.old pass.new }
-        ensures ok { IfOk result (λ won. (place_of won ≡ place superblock class) × (view pass.new ≡ saw (super superblock) (packed_super seen) (reserved (place superblock class) (view pass.old)))) }
-        ensures err { IfErr result (λ word. FitsSuperWord word × (word ≢ seen) × (view pass.new ≡ saw (super superblock) (packed_super word) (view pass.old))) }
+        ensures ok { IfOk result (λ won. Reserves superblock class seen (view pass.old) won (view pass.new)) }
+        ensures err { IfErr result (λ word. FindsOther superblock seen (view pass.old) word (view pass.new)) }
     {
         let word = super_word(&self.setup.plan, superblock);
         let _units = self.setup.plan.geometry.units;
@@ -66,8 +64,8 @@ impl Shared {
         }
     }
 
-    /// Sets a bit of a superblock where a place is reserved, and so turns the place into a block. Err:
-    /// the bit was set; the place comes back, with the word in which the bit was found.
+    /// Sets a bit of a superblock where a place is reserved, and so turns the place into a block.
+    /// Err: the bit was set; the place comes back, with the word in which the bit was found.
     pub fn claim(
         &self,
         pass: &mut Pass,
@@ -78,8 +76,8 @@ impl Shared {
         requires hand { HasPlace (plan self.now) (place_of reserved) (view pass.old).reserved }
         requires bit { bit < cap (plan self.now) reserved.class }
         ensures pass { IsSame pass.old pass.new }
-        ensures ok { IfOk result (λ won. (block_of won ≡ block (unit_of (plan self.now) reserved.superblock reserved.class bit) reserved.class true) × ((n : ℕ) × (bit_at n (bit % 64) ≡ 0) × (view pass.new ≡ saw (bits reserved.superblock (bit / 64)) n (claimed (plan self.now) (place_of reserved) bit (view pass.old))))) }
-        ensures err { IfErr result (λ lost. (lost.0 ≡ reserved) × (bit_at lost.1 (bit % 64) ≡ 1) × (view pass.new ≡ saw (bits reserved.superblock (bit / 64)) lost.1 (view pass.old))) }
+        ensures ok { IfOk result (λ won. Claims (plan self.now) reserved bit (view pass.old) won (view pass.new)) }
+        ensures err { IfErr result (λ lost. FindsSet reserved bit (view pass.old) lost (view pass.new)) }
     {
         let units = self.setup.plan.geometry.units;
         let Reserved { superblock, class } = reserved;
@@ -107,8 +105,7 @@ impl Shared {
         requires table { IsOf self.now pass.old }
         requires hand { HasBlock (plan self.now) (block_of block) (view pass.old).blocks }
         ensures pass { IsSame pass.old pass.new }
-        ensures debt { owed_by result ≡ place (superblock_of (plan self.now) block.unit) block.class }
-        ensures view { (n : ℕ) × (view pass.new ≡ saw (bits (superblock_of (plan self.now) block.unit) (bit_of (plan self.now) block.unit block.class / 64)) n (cleared (plan self.now) (block_of block) (view pass.old))) }
+        ensures view { Clears (plan self.now) block (view pass.old) result (view pass.new) }
     {
         let units = self.setup.plan.geometry.units;
         let superblock = block.unit / units;
@@ -127,7 +124,7 @@ impl Shared {
         requires table { IsOf self.now pass.old }
         requires hand { HasPlace (plan self.now) (owed_by debt) (view pass.old).debts }
         ensures pass { IsSame pass.old pass.new }
-        ensures view { (n : ℕ) × (view pass.new ≡ saw (super debt.superblock) n (settled (owed_by debt) (view pass.old))) }
+        ensures view { Settles debt (view pass.old) (view pass.new) }
     {
         let word = super_word(&self.setup.plan, debt.superblock);
         self.fetch_sub_as::<Brand, _>(&mut pass.seat, word, 1, &debt);
@@ -138,7 +135,7 @@ impl Shared {
         requires table { IsOf self.now pass.old }
         requires hand { HasBlock (plan self.now) (block_of block) (view pass.old).blocks }
         ensures pass { IsSame pass.old pass.new }
-        ensures view { (n : ℕ) × (k : ℕ) × (view pass.new ≡ saw (super (superblock_of (plan self.now) block.unit)) k (saw (bits (superblock_of (plan self.now) block.unit) (bit_of (plan self.now) block.unit block.class / 64)) n (released (plan self.now) (block_of block) (view pass.old)))) }
+        ensures view { Releases (plan self.now) block (view pass.old) (view pass.new) }
     {
         let debt = self.clear(pass, block);
         self.settle(pass, debt);

@@ -1,4 +1,4 @@
-//! One function for each atomic operation on one word. What a step tells is picked where it is made.
+//! One function for each atomic operation on one word. What a step tells is picked by its call.
 ghost use Rattle.std.specs.Prelude.{◌≡◌, ◌+◌, ◌-◌, ◌%◌, ◌^◌, ◌==◌, bit_and, bit_or};
 ghost use prog.Atomic.{either};
 ghost use Rattle.table_core.specs.Parts.{Keeps};

@@ -1,5 +1,6 @@
-ghost use Rattle.std.specs.Prelude.{◌≡◌, ℕ};
+ghost use Rattle.std.specs.Prelude.{ℕ};
 ghost use Rattle.table_core.specs.Addresses.{Addr, super};
+ghost use Rattle.table_core.specs.Steps.{Tells};
 ghost use Rattle.table_core.specs.declared.view.View.{View};
 
 use atomic_table::Play;
@@ -26,5 +27,5 @@ pub struct Told<W: Wish> {
 }
 
 impl<W: Wish> Play<(), View> for Told<W> {
-    ghost then = { λ step old found new. W.told found new.0 × (new.0.parts ≡ old.0.parts) × (new.1 ≡ old.1) };
+    ghost then = { λ step old. Tells W.told old };
 }

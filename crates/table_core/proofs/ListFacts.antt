@@ -5,7 +5,6 @@ use lib.ListN.{get_elem?}
 use Rattle.std.specs.Prelude.{slice_set}
 use Rattle.std.proofs.lemmas.Bool.{eq-eqb, eqb-true, and_parts, and_from}
 use Rattle.record_core.specs.Sums.{total}
-use Rattle.record_core.specs.CountLaws.{HasPassing}
 use Rattle.record_core.proofs.CountFacts.{total-dropped}
 use Rattle.record_core.proofs.TotalFacts.{total-member}
 use Rattle.record_core.specs.Counting.{At, Has, dropped}

@@ -7,6 +7,7 @@ use Rattle.atomic_table.specs.Table as table
 use Rattle.table_core.specs.Addresses.{Addr, Mem, address, is_there, mem_of, put}
 use Rattle.record_core.specs.Counting.{At}
 use Rattle.table_core.specs.Story.{Story}
+use Rattle.table_core.specs.Steps.{Tells}
 use Rattle.table_core.specs.Parts.{Part, seen, Says, Lawful, Holds, Keeps}
 use Rattle.table_core.specs.declared.setup.Setup.{Setup}
 use Rattle.table_core.specs.declared.view.View.{View}
@@ -24,10 +25,6 @@ module _ (g : Setup) (vs : List View) (id : ℕ) (v : View) (at : At vs id v) wh
   -- a part holds where it holds with what it reads of the new view
   pub moves : (q : Part) (s : Story) (n : Mem) (w : View) → Says g q s n (slice_set (map (seen q) vs) id (seen q w)) → Says g q s n (map (seen q) (slice_set vs id w))
   moves q s n w says = subst (Says g q s n) (sym (map-set (seen q) vs id w)) says
-
--- what a step tells of a seat that holds no slot
-abbrev pub Tells : (ℕ → View → Type 0) → Me (Unit {0}) View → ℕ → Me (Unit {0}) View → Type 0
-Tells told me n new = told n new.0 × (new.0.parts ≡ me.0.parts) × (new.1 ≡ me.1)
 
 abbrev pub holds_at : Setup → State (Unit {0}) View → Type 0
 holds_at g s = Holds g s.words s.views

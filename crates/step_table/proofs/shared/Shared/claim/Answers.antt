@@ -1,5 +1,5 @@
 use Rattle.step_table.proofs.shared.Shared.claim.Goals as goal
-use Rattle.std.proofs.Common.{◌≡◌, ◌≢◌, ℕ, ◌+◌, ◌*◌, ◌%◌, ◌^◌, ◌≤◌, ◌∙◌, true, refl, sym, ap, arith}
+use Rattle.std.proofs.Common.{◌≡◌, ◌≢◌, ℕ, ◌+◌, ◌*◌, ◌%◌, ◌^◌, ◌≤◌, ◌∙◌, true, refl, sym, arith}
 use Rattle.std.specs.Int.{bit_at}
 use Rattle.std.proofs.lemmas.Nat.Bits.{shr_and_one}
 use Rattle.table_core.specs.Pool.{unit_of}
@@ -24,12 +24,12 @@ pub returns-then-found-bit-eq0-clause-ok : goal.returns-then-found-bit-eq0-claus
 returns-then-found-bit-eq0-clause-ok c =
     let g = c.args.self.now.setup.plan in let r = c.args.reserved in let found = c.fetch_or_as-found.result in
     let unit : r.superblock * g.geometry.units + c.args.bit * 2 ^ r.class % 4294967296 ≡ unit_of g r.superblock r.class c.args.bit =
-        omega (arith, first_below g r.class c.args.bit c.requires.hand.class c.requires.bit, g.geometry.units_fit) in
+    omega (arith, first_below g r.class c.args.bit c.requires.hand.class c.requires.bit, g.geometry.units_fit) in
     let clear : bit_at found (c.args.bit % 64) ≡ 0 = sym (shr_and_one found (c.args.bit % 64)) ∙ c.if-found-bit-eq0.true in
-    (λ k. block (unit k) r.class true, (found, clear, c.fetch_or_as-found.ensures.told.0 clear))
+    record { block_is = λ k. block (unit k) r.class true; found = found; clear = clear; view_is = c.fetch_or_as-found.ensures.told.0 clear }
 
 pub returns-else-found-bit-eq0-clause-err : goal.returns-else-found-bit-eq0-clause-err
 returns-else-found-bit-eq0-clause-err c =
     let found = c.fetch_or_as-found.result in let other = c.if-found-bit-eq0.false in
     let set : bit_at found (c.args.bit % 64) ≡ 1 = one_left (bit_at found (c.args.bit % 64)) (omega arith) (λ e. other (shr_and_one found (c.args.bit % 64) ∙ e)) in
-    (refl, set, c.fetch_or_as-found.ensures.told.1 set)
+    record { back = refl; set = set; view_is = c.fetch_or_as-found.ensures.told.1 set }

@@ -1,5 +1,5 @@
 use Rattle.step_table.proofs.shared.Shared.clear.Goals as goal
-use Rattle.std.proofs.Common.{arith}
+use Rattle.std.proofs.Common.{refl, arith}
 use Rattle.table_core.proofs.PoolKinds.{clears-at}
 use Rattle.step_table.specs.Passes.{block_of}
 use Rattle.step_table.proofs.Stepping.{block-there}
@@ -14,4 +14,4 @@ fetch_and_as-requires-clause-rule c =
     clears-at c.args.self.now.setup c.args.pass.now.seat.id c.args.pass.now.seat.me.0 (block_of c.args.block) (omega (arith, c.args.pass.now.shares)) c.requires.hand.there
 
 pub returns-clause-view : goal.returns-clause-view
-returns-clause-view c = (c.fetch_and_as.result, c.fetch_and_as.ensures.told)
+returns-clause-view c = record { debt_is = refl; found = c.fetch_and_as.result; view_is = c.fetch_and_as.ensures.told }

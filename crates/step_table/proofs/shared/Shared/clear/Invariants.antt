@@ -2,7 +2,7 @@ use Rattle.std.proofs.Common.{◌≡◌, ◌/◌}
 use Rattle.table_core.specs.Addresses.{bits}
 use Rattle.table_core.specs.Pool.{superblock_of, bit_of}
 use Rattle.table_core.specs.Views.{saw, cleared}
-use Rattle.step_table.specs.Passes.{plan, block_of}
+use Rattle.step_table.specs.Passes.{block_of}
 use Rattle.step_table.proofs.shared.Shared.clear.Given as goal
 
 abbrev pub ghosts-fetch_and_as : goal.ghosts-fetch_and_as

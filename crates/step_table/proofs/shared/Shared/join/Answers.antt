@@ -18,7 +18,7 @@ join_seat-requires c =
       c.args.other.bare,
       some-words t.setup.plan t.table.shared.table_id.words t.sized,
       subst (λ (k : Setup). Joins (holds_at k) keep.id keep.me.0 other.id other.me.0 (joined keep.me.0 other.me.0) spent) (sym t.keyed)
-      (joins t.setup keep.id keep.me.0 other.id other.me.0 (omega (arith, c.args.keep.shares)) c.requires.other),
+          (joins t.setup keep.id keep.me.0 other.id other.me.0 (omega (arith, c.args.keep.shares)) c.requires.other),
     )
 
 pub load_as-requires-clause-rule : goal.load_as-requires-clause-rule
@@ -41,4 +41,4 @@ overflow_add-result-2 c =
 pub returns-clause-view : goal.returns-clause-view
 returns-clause-view c =
     let both = ap (λ (me : Me (Unit {0}) View). me.0) c.join_seat.ensures.2 in
-    (c.load_as.result, c.load_as.ensures.told.0 ∙ ap (λ (v : View). saw (super 0) c.load_as.result v) both)
+    record { found = c.load_as.result; view_is = c.load_as.ensures.told.0 ∙ ap (λ (v : View). saw (super 0) c.load_as.result v) both }

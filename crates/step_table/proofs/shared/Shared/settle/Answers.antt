@@ -11,4 +11,4 @@ fetch_sub_as-requires-clause-rule c = settles-at c.args.self.now.setup c.args.pa
     c.requires.hand.superblock (omega (arith, c.args.pass.now.shares)) c.requires.hand.there
 
 pub returns-clause-view : goal.returns-clause-view
-returns-clause-view c = (c.fetch_sub_as.result, c.fetch_sub_as.ensures.told)
+returns-clause-view c = record { found = c.fetch_sub_as.result; view_is = c.fetch_sub_as.ensures.told }

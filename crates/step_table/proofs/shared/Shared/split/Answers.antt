@@ -1,5 +1,5 @@
 use Rattle.step_table.proofs.shared.Shared.split.Goals as goal
-use Rattle.std.proofs.Common.{◌<◌, sym, subst, arith}
+use Rattle.std.proofs.Common.{sym, subst, arith}
 use Rattle.atomic_table.specs.Table.{Splits}
 use Rattle.table_core.specs.Views.{kept_half, idle_half}
 use Rattle.table_core.specs.declared.setup.Setup.{Setup}
