@@ -1,6 +1,7 @@
 //! Where the words of a table lie.
 ghost use Rattle.std.specs.Prelude.{◌≡◌, ◌+◌, ◌*◌, ◌/◌, ◌<◌, ◌≤◌};
-ghost use Rattle.table_core.specs.Addresses.{address, super, bits, units_of, words_of, bit_words};
+ghost use Rattle.table_core.specs.Addresses.{address, super, bits, words_of};
+ghost use Rattle.step_table.specs.Layout.{superblock_words_of};
 
 use kt_words::{Geometry, Plan};
 
@@ -20,7 +21,7 @@ fn bit_words_of(geometry: &Geometry) -> usize
 
 // The words of all superblocks, with their bits.
 fn superblock_words(geometry: &Geometry) -> usize
-    ensures sum { result ≡ geometry.now.superblocks * 8 + geometry.now.superblocks * ((geometry.now.units + 63) / 64) }
+    ensures sum { result ≡ superblock_words_of geometry.now }
     ensures few { result ≤ 16384 }
 {
     let superblocks = geometry.superblocks as usize;

@@ -41,7 +41,7 @@ impl Shared {
         requires table { IsOf self.now keep × IsOf self.now other }
         requires other { HasOnlyBlocks (view other) }
         ensures table { IsOf self.now result }
-        ensures view { Joins (view keep) (view other) (view result) }
+        ensures view { Joins keep other result }
         ensures splits { result.splits ≡ keep.splits + other.splits + 1 }
     {
         let Pass { mut seat, splits } = keep;

@@ -21,7 +21,7 @@ impl Shared {
         requires class { class ≤ 3 }
         ensures pass { IsSame pass.old pass.new }
         ensures word { FitsSuperWord result }
-        ensures view { Looks superblock class (view pass.old) result (view pass.new) }
+        ensures view { Looks superblock class pass.old result pass.new }
     {
         let word = super_word(&self.setup.plan, superblock);
         let found = self.load_as::<Brand, _>(&mut pass.seat, word, &(superblock, class));
@@ -43,8 +43,8 @@ impl Shared {
         requires seen { FitsSuperWord seen }
         requires room { TakesOne (plan self.now) seen class }
         ensures pass { IsSame pass.old pass.new }
-        ensures ok { IfOk result (λ won. Reserves superblock class seen (view pass.old) won (view pass.new)) }
-        ensures err { IfErr result (λ word. FindsOther superblock seen (view pass.old) word (view pass.new)) }
+        ensures ok { IfOk result (λ won. Reserves superblock class seen pass.old won pass.new) }
+        ensures err { IfErr result (λ word. FindsOther superblock seen pass.old word pass.new) }
     {
         let word = super_word(&self.setup.plan, superblock);
         let _units = self.setup.plan.geometry.units;
@@ -76,8 +76,8 @@ impl Shared {
         requires hand { HasPlace (plan self.now) (place_of reserved) (view pass.old).reserved }
         requires bit { bit < cap (plan self.now) reserved.class }
         ensures pass { IsSame pass.old pass.new }
-        ensures ok { IfOk result (λ won. Claims (plan self.now) reserved bit (view pass.old) won (view pass.new)) }
-        ensures err { IfErr result (λ lost. FindsSet reserved bit (view pass.old) lost (view pass.new)) }
+        ensures ok { IfOk result (λ won. Claims (plan self.now) reserved bit pass.old won pass.new) }
+        ensures err { IfErr result (λ lost. FindsSet reserved bit pass.old lost pass.new) }
     {
         let units = self.setup.plan.geometry.units;
         let Reserved { superblock, class } = reserved;
@@ -105,7 +105,7 @@ impl Shared {
         requires table { IsOf self.now pass.old }
         requires hand { HasBlock (plan self.now) (block_of block) (view pass.old).blocks }
         ensures pass { IsSame pass.old pass.new }
-        ensures view { Clears (plan self.now) block (view pass.old) result (view pass.new) }
+        ensures view { Clears (plan self.now) block pass.old result pass.new }
     {
         let units = self.setup.plan.geometry.units;
         let superblock = block.unit / units;
@@ -124,7 +124,7 @@ impl Shared {
         requires table { IsOf self.now pass.old }
         requires hand { HasPlace (plan self.now) (owed_by debt) (view pass.old).debts }
         ensures pass { IsSame pass.old pass.new }
-        ensures view { Settles debt (view pass.old) (view pass.new) }
+        ensures view { Settles debt pass.old pass.new }
     {
         let word = super_word(&self.setup.plan, debt.superblock);
         self.fetch_sub_as::<Brand, _>(&mut pass.seat, word, 1, &debt);
@@ -135,7 +135,7 @@ impl Shared {
         requires table { IsOf self.now pass.old }
         requires hand { HasBlock (plan self.now) (block_of block) (view pass.old).blocks }
         ensures pass { IsSame pass.old pass.new }
-        ensures view { Releases (plan self.now) block (view pass.old) (view pass.new) }
+        ensures view { Releases (plan self.now) block pass.old pass.new }
     {
         let debt = self.clear(pass, block);
         self.settle(pass, debt);

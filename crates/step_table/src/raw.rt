@@ -1,7 +1,6 @@
 //! One function for each atomic operation on one word. What a step tells is picked by its call.
-ghost use Rattle.std.specs.Prelude.{◌≡◌, ◌+◌, ◌-◌, ◌%◌, ◌^◌, ◌==◌, bit_and, bit_or};
+ghost use Rattle.std.specs.Prelude.{◌≡◌, ◌==◌, bit_and, bit_or};
 ghost use prog.Atomic.{either};
-ghost use Rattle.table_core.specs.Parts.{Keeps};
 
 use crate::shared::Shared;
 use crate::told::{Told, Wish};
@@ -9,7 +8,7 @@ use atomic_table::Seat;
 use table_core::View;
 
 impl Shared {
-    ghost use Rattle.step_table.specs.Seats.{IsSameSeat, LiesAt};
+    ghost use Rattle.step_table.specs.Seats.{IsSameSeat, LiesAt, MayStep, less_by};
 
     pub(crate) fn load_as<W: Wish, A>(
         &self,
@@ -19,7 +18,7 @@ impl Shared {
     ) -> u64
         requires table { seat.old.table_id ≡ self.now.table.shared.table_id }
         requires word { LiesAt self.now.setup.plan W.at word }
-        requires rule { Keeps self.now.setup seat.old.id seat.old.me.0 W.at (λ n. n) W.told }
+        requires rule { MayStep self.now.setup seat.old W.at (λ n. n) W.told }
         ensures same { IsSameSeat seat.old seat.new }
         ensures told { W.told result seat.new.me.0 }
     {
@@ -36,7 +35,7 @@ impl Shared {
     ) -> u64
         requires table { seat.old.table_id ≡ self.now.table.shared.table_id }
         requires word { LiesAt self.now.setup.plan W.at word }
-        requires rule { Keeps self.now.setup seat.old.id seat.old.me.0 W.at (λ n. either (n == old) new n) W.told }
+        requires rule { MayStep self.now.setup seat.old W.at (λ n. either (n == old) new n) W.told }
         ensures same { IsSameSeat seat.old seat.new }
         ensures told { W.told result seat.new.me.0 }
     {
@@ -54,7 +53,7 @@ impl Shared {
     ) -> u64
         requires table { seat.old.table_id ≡ self.now.table.shared.table_id }
         requires word { LiesAt self.now.setup.plan W.at word }
-        requires rule { Keeps self.now.setup seat.old.id seat.old.me.0 W.at (λ n. bit_or n mask) W.told }
+        requires rule { MayStep self.now.setup seat.old W.at (λ n. bit_or n mask) W.told }
         ensures same { IsSameSeat seat.old seat.new }
         ensures told { W.told result seat.new.me.0 }
     {
@@ -70,7 +69,7 @@ impl Shared {
     ) -> u64
         requires table { seat.old.table_id ≡ self.now.table.shared.table_id }
         requires word { LiesAt self.now.setup.plan W.at word }
-        requires rule { Keeps self.now.setup seat.old.id seat.old.me.0 W.at (λ n. bit_and n mask) W.told }
+        requires rule { MayStep self.now.setup seat.old W.at (λ n. bit_and n mask) W.told }
         ensures same { IsSameSeat seat.old seat.new }
         ensures told { W.told result seat.new.me.0 }
     {
@@ -86,7 +85,7 @@ impl Shared {
     ) -> u64
         requires table { seat.old.table_id ≡ self.now.table.shared.table_id }
         requires word { LiesAt self.now.setup.plan W.at word }
-        requires rule { Keeps self.now.setup seat.old.id seat.old.me.0 W.at (λ n. (n + (2 ^ 64 - k)) % 2 ^ 64) W.told }
+        requires rule { MayStep self.now.setup seat.old W.at (less_by k) W.told }
         ensures same { IsSameSeat seat.old seat.new }
         ensures told { W.told result seat.new.me.0 }
     {

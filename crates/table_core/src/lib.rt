@@ -1,5 +1,5 @@
 //! The table that all threads of a run share, as plain data: its words by what they are, the view
-//! that each pass has of it, and the rule that holds between any two atomic steps. Nothing here runs.
+//! that each pass has of it, and the rule that holds between any two steps. Nothing here runs.
 //!
 //! `specs/Addresses.antt` says where each word lies, `Views.antt` what a step does to a view, and
 //! `Story.antt` what has happened. The rule is a list of parts (`Parts.antt`); what they say stands
