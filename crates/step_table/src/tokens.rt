@@ -37,3 +37,12 @@ impl Block {
         self.class
     }
 }
+
+impl Reserved {
+    /// The class of the place.
+    pub fn class(&self) -> u8
+        ensures { result ≡ self.now.class }
+    {
+        self.class
+    }
+}

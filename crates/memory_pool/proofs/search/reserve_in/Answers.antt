@@ -1,0 +1,43 @@
+use Rattle.std.proofs.Common.{sym, subst, true≢false}
+use Rattle.kt_words.specs.declared.plan.Plan.{Plan}
+use Rattle.kt_words.specs.SuperWords.{packed_super}
+use Rattle.table_core.specs.Addresses.{super}
+use Rattle.memory_pool.specs.Searches.{IsFull}
+use Rattle.memory_pool.proofs.Searching.{sees-self, sees-on, look-sees, step-sees, finds-no-room, finds-place, place-later}
+use Rattle.memory_pool.proofs.search.reserve_in.Goals as goal
+
+pub loop-init : goal.loop-init
+loop-init g c = (tt, tt, sees-self c.args.pass.now)
+
+pub returns-then-not-has_room-clause-later : goal.returns-then-not-has_room-clause-later
+returns-then-not-has_room-clause-later g c =
+    (sees-on c.args.pass.now c.loop.pass c.look-seen.new.pass c.loop.invariant.2
+    (look-sees c.args.superblock c.args.class c.look-seen.result c.loop.pass c.look-seen.new.pass c.look-seen.ensures.pass c.look-seen.ensures.view)).later
+
+pub returns-then-not-has_room-clause-none : goal.returns-then-not-has_room-clause-none
+returns-then-not-has_room-clause-none g c =
+    let full = subst (λ (p : Plan). IsFull p c.look-seen.result c.args.class) c.plan-plan.ensures (c.if-not-has_room.ensures.no (λ h. absurd (true≢false (sym h)))) in
+    finds-no-room c.args.shared.now.setup.plan c.args.superblock c.args.class c.look-seen.result c.args.pass.now c.loop.pass c.look-seen.new.pass c.look-seen.ensures.word c.loop.invariant.2
+    c.look-seen.ensures.pass c.look-seen.ensures.view full
+
+pub returns-in-Ok-clause-some : goal.returns-in-Ok-clause-some
+returns-in-Ok-clause-some g c =
+    let looked = sees-on c.args.pass.now c.loop.pass c.look-seen.new.pass c.loop.invariant.2
+    (look-sees c.args.superblock c.args.class c.look-seen.result c.loop.pass c.look-seen.new.pass c.look-seen.ensures.pass c.look-seen.ensures.view) in
+    finds-place c.args.superblock c.args.class c.look-seen.result c.args.pass.now c.look-seen.new.pass c.reserve.new.pass c.in-Ok.reserved looked c.in-Ok.ensures.ok
+
+pub returns-in-Ok-clause-later : goal.returns-in-Ok-clause-later
+returns-in-Ok-clause-later g c =
+    let looked = sees-on c.args.pass.now c.loop.pass c.look-seen.new.pass c.loop.invariant.2
+    (look-sees c.args.superblock c.args.class c.look-seen.result c.loop.pass c.look-seen.new.pass c.look-seen.ensures.pass c.look-seen.ensures.view) in
+    place-later c.args.superblock c.args.class c.look-seen.result c.args.pass.now c.look-seen.new.pass c.reserve.new.pass c.in-Ok.reserved looked c.in-Ok.ensures.ok
+
+pub loop-preserved : goal.loop-preserved
+loop-preserved g c =
+    let looked = sees-on c.args.pass.now c.loop.pass c.look-seen.new.pass c.loop.invariant.2
+    (look-sees c.args.superblock c.args.class c.look-seen.result c.loop.pass c.look-seen.new.pass c.look-seen.ensures.pass c.look-seen.ensures.view) in (
+      tt,
+      tt,
+      sees-on c.args.pass.now c.look-seen.new.pass c.reserve.new.pass looked
+          (step-sees (super c.args.superblock) (packed_super c.in_default.field-0) c.look-seen.new.pass c.reserve.new.pass c.in_default.ensures.pass c.in_default.ensures.err.view_is),
+    )

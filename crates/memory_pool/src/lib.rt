@@ -1,0 +1,10 @@
+//! A pool of memory blocks for any number of threads, without a lock. It stands on the steps of
+//! `step_table`; what its calls tell stands in `specs/Answers.antt`.
+#![tactic(auto)]
+
+mod allocated;
+mod pool;
+mod search;
+
+pub use allocated::Allocated;
+pub use pool::{allocate, release};

@@ -1,0 +1,36 @@
+ghost use Rattle.std.specs.Prelude.{◌≤◌};
+ghost use Rattle.step_table.specs.Passes.{view, plan, IsOf, IsSame, block_of, HasBlock};
+ghost use Rattle.step_table.specs.Steps.{Releases};
+ghost use Rattle.memory_pool.specs.Searches.{SeesMore};
+ghost use Rattle.memory_pool.specs.Answers.{Allocates};
+
+use crate::allocated::Allocated;
+use crate::search::{claim_in, reserve_in};
+use std::sync::Wait;
+use step_table::{Block, Pass, Shared};
+
+/// Takes a block of a class from some superblock that has room for it. It takes no memory of its own.
+pub fn allocate(shared: &Shared, rt: &impl Wait, pass: &mut Pass, class: u8) -> Allocated
+    requires table { IsOf shared.now pass.old }
+    requires class { class ≤ 3 }
+    ensures pass { IsSame pass.old pass.new }
+    ensures later { SeesMore (view pass.old) (view pass.new) }
+    ensures answer { Allocates (plan shared.now) class (view pass.old) result (view pass.new) }
+{
+    for superblock in 0..shared.plan().geometry.superblocks {
+        if let Some(reserved) = reserve_in(shared, rt, pass, superblock, class) {
+            return Allocated::Block(claim_in(shared, rt, pass, reserved));
+        }
+    }
+    Allocated::Null
+}
+
+/// Gives a block back.
+pub fn release(shared: &Shared, pass: &mut Pass, block: Block)
+    requires table { IsOf shared.now pass.old }
+    requires hand { HasBlock (plan shared.now) (block_of block) (view pass.old).blocks }
+    ensures pass { IsSame pass.old pass.new }
+    ensures view { Releases (plan shared.now) block pass.old pass.new }
+{
+    shared.release_block(pass, block);
+}
