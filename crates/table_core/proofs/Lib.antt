@@ -9,3 +9,4 @@ pub mod PoolKinds
 pub mod Opening
 pub mod Splitting
 pub mod Joining
+pub mod RuleFacts

@@ -9,3 +9,4 @@ pub mod Bounds
 pub mod Views
 pub mod Parts
 pub mod Steps
+pub mod RuleLaws

@@ -6,8 +6,10 @@
 //! in `Pool.antt`, `Wins.antt` and `Bounds.antt`.
 #![tactic(auto)]
 
+mod laws;
 mod setup;
 mod view;
 
+pub use laws::pool_is_shared;
 pub use setup::Setup;
 pub use view::View;

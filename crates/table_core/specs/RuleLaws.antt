@@ -1,0 +1,41 @@
+-- What the rule says of the pool in other words.
+use Rattle.std.specs.Prelude.{◌≡◌, ◌≢◌, ℕ, ◌+◌, ◌<◌, ◌≤◌, ◌⊎◌, List, []}
+use Rattle.record_core.specs.Counting.{At, one_if, passing}
+use Rattle.kt_words.specs.Capacity.{block_units}
+use Rattle.kt_words.specs.SuperWords.{count_of}
+use Rattle.kt_words.specs.StateWords.{phase_of}
+use Rattle.table_core.specs.Addresses.{Mem, super, state, mem_of, units_of}
+use Rattle.table_core.specs.Lists.{Each}
+use Rattle.table_core.specs.Holdings.{Block}
+use Rattle.table_core.specs.Pool.{bit_in}
+use Rattle.table_core.specs.Parts.{Holds}
+use Rattle.table_core.specs.declared.setup.Setup.{Setup}
+use Rattle.table_core.specs.declared.view.View.{View}
+
+-- block x is at position k of what the pass at position id has
+pub record HasAt (vs : List View) (id k : ℕ) (x : Block) : Type 0 where
+  pub pass : View
+  pub at : At vs id pass
+  pub there : At pass.blocks k x
+
+-- two blocks share no unit
+abbrev pub AreApart : Block → Block → Type 0
+AreApart x y = (x.unit + block_units x.class ≤ y.unit) ⊎ (y.unit + block_units y.class ≤ x.unit)
+
+-- all blocks of all passes lie apart
+abbrev pub BlocksAreApart : Type 0
+BlocksAreApart = (g : Setup) (ws : List ℕ) (vs : List View) → Holds g ws vs → (id k id' k' : ℕ) (x y : Block) → HasAt vs id k x → HasAt vs id' k' y
+    → (id ≢ id') ⊎ (k ≢ k') → AreApart x y
+
+-- a pass has nothing of the pool
+pub record HasNothing (v : View) : Type 0 where
+  pub reserved : v.reserved ≡ []
+  pub blocks : v.blocks ≡ []
+  pub debts : v.debts ≡ []
+
+-- where no pass has anything and no record stands, all counts are 0 and all bits are clear
+abbrev pub UnusedPoolIsEmpty : Type 0
+UnusedPoolIsEmpty = (g : Setup) (ws : List ℕ) (vs : List View) → Holds g ws vs → Each HasNothing vs
+    → ((u : ℕ) → u < units_of g.plan → phase_of (mem_of g.plan ws (state u)) ≡ 0)
+    → (i : ℕ) → i < g.plan.geometry.superblocks
+    → (count_of (mem_of g.plan ws (super i)) ≡ 0) × ((b : ℕ) → b < 512 → bit_in (mem_of g.plan ws) i b ≡ 0)
