@@ -31,6 +31,7 @@ used_member roots bodies t (Some block ∷ more) i b e = by (is_in_use roots bod
   where
     later : (k : ℕ) × (slice_get more k ≡ Some (Some b)) × (is_in_use roots bodies (suc t + k) ≡ true) → (k : ℕ) × (slice_get (Some block ∷ more) k ≡ Some (Some b)) × (is_in_use roots bodies (t + k) ≡ true)
     later (k, there, used) = let same : suc t + k ≡ t + suc k = omega arith in (suc k, there, ap (is_in_use roots bodies) (sym same) ∙ used)
+
     by : (x : Bool) → is_in_use roots bodies t ≡ x → ((j : ℕ) → slice_get (used_from roots bodies (suc t) more) j ≡ Some b → (k : ℕ) × (slice_get more k ≡ Some (Some b)) × (is_in_use roots bodies (suc t + k) ≡ true))
         → (i : ℕ) → slice_get (cond x (block ∷ used_from roots bodies (suc t) more) (used_from roots bodies (suc t) more)) i ≡ Some b → (k : ℕ) × (slice_get (Some block ∷ more) k ≡ Some (Some b)) × (is_in_use roots bodies (t + k) ≡ true)
     by true here rest zero f = let same : t + 0 ≡ t = omega arith in (0, ap Some (ap Some (same_Some block b f)), ap (is_in_use roots bodies) same ∙ here)
@@ -73,6 +74,7 @@ differ_cons roots bodies t (Some block) more apart rest = by_use (is_in_use root
         let same_zero : t + 0 ≡ t = omega arith in
         let same_k : t + suc k ≡ suc t + k = omega arith in
         absurd (omega (arith, apart 0 (suc k) block refl there (ap (is_in_use roots bodies) same_zero ∙ used) (ap (is_in_use roots bodies) same_k ∙ used_k)))
+
     by_use : (x : Bool) → is_in_use roots bodies t ≡ x → AllDiffer (cond x (block ∷ used_from roots bodies (suc t) more) (used_from roots bodies (suc t) more))
     by_use false used i j b f g = rest i j b f g
     by_use true used zero zero b f g = refl
@@ -101,6 +103,7 @@ used_count units place roots roots' bodies bodies' t (Some block ∷ more) extra
   where
     added : ℕ
     added = count_in units place (elim extra [ None ↦ [] | Some b ↦ b ∷ [] ])
+
     by : (x y : Bool) → is_in_use roots' bodies' t ≡ x → is_in_use roots bodies t ≡ y
         → count_in units place (used_from roots' bodies' (suc t) (more ++ extra ∷ [])) ≤ count_in units place (used_from roots bodies (suc t) more) + count_in units place (elim extra [ None ↦ [] | Some b ↦ b ∷ [] ])
         → count_in units place (cond x (block ∷ used_from roots' bodies' (suc t) (more ++ extra ∷ [])) (used_from roots' bodies' (suc t) (more ++ extra ∷ [])))
@@ -132,7 +135,7 @@ core_fit units roots bodies blocks supers core = record {
   supers_fit = core.supers_fit;
   placed = λ at b e. let (k, there, used) = used_member roots bodies 1 blocks at b e in core.placed (1 + k) b (found_at blocks k b there) ((in_use roots bodies (1 + k)).0 used);
   differ = used_differ roots bodies 1 blocks (λ k l b e f used_k used_l.
-    let same = core.apart (1 + k) (1 + l) b (found_at blocks k b e) (found_at blocks l b f) ((in_use roots bodies (1 + k)).0 used_k) ((in_use roots bodies (1 + l)).0 used_l) in omega (arith, same));
+      let same = core.apart (1 + k) (1 + l) b (found_at blocks k b e) (found_at blocks l b f) ((in_use roots bodies (1 + k)).0 used_k) ((in_use roots bodies (1 + l)).0 used_l) in omega (arith, same));
 }
 
 -- a block of a task in use is among them
@@ -174,16 +177,22 @@ newly units supers bs class block new unit_count fits fit gives =
     let below : gives.bit < capacity units class = omega (arith, most, same_count, is_counted, few) in
     let zero_bit : 0 + gives.bit ≡ gives.bit = omega arith in
     record {
-      place = gives.place; bit = gives.bit; super = super; there = there; block_is = gives.block_is; below = below;
+      place = gives.place;
+      bit = gives.bit;
+      super = super;
+      there = there;
+      block_is = gives.block_is;
+      below = below;
       room = room_of gives.place gives.was super gives.chosen count_is (ap (λ (s : SuperblockState). s.class) was_is);
       few = few;
       clear = ap (λ k. list_any (stands_at units gives.place k) bs) (sym zero_bit)
-        ∙ same_Some (list_any (stands_at units gives.place (0 + gives.bit)) bs) false (sym (set_in_at units gives.place bs 0 units gives.bit (omega (arith, below, whole.2))) ∙ ap (λ set. slice_get set gives.bit) (sym set_is) ∙ gives.lowest.clear);
+          ∙ same_Some (list_any (stands_at units gives.place (0 + gives.bit)) bs) false (sym (set_in_at units gives.place bs 0 units gives.bit (omega (arith, below, whole.2))) ∙ ap (λ set. slice_get set gives.bit) (sym set_is) ∙ gives.lowest.clear);
     }
   where
     below_room : (place : ℕ) (was : SuperblockState) → IsChosen class (capacity units class) (pool_with units supers bs).superblocks place was → 1 ≤ capacity units class → was.count ≡ count_in units place bs → count_in units place bs < capacity units class
     below_room place was (inl first) some count = omega (arith, first.1.below, count)
     below_room place was (inr (none, first)) some count = omega (arith, first.1, count, some)
+
     room_of : (place : ℕ) (was : SuperblockState) (super : Super) → IsChosen class (capacity units class) (pool_with units supers bs).superblocks place was → was.count ≡ count_in units place bs → was.class ≡ super.class → (super.class ≡ class) ⊎ (count_in units place bs ≡ 0)
     room_of place was super (inl first) count class_is = inl (sym class_is ∙ first.1.of_class)
     room_of place was super (inr (none, first)) count class_is = inr (sym count ∙ first.1)
@@ -198,9 +207,9 @@ module _ (units : ℕ) (unit_count : IsUnitCount units) (roots : List RootWord) 
     placed = λ t b e used. core.placed t b e (less t used);
     apart = λ t u b e f used_t used_u. core.apart t u b e f (less t used_t) (less u used_u);
     supers_fit = λ place super there.
-      let was = core.supers_fit place super there in
-      let fewer = used_less place in
-      record { class_fits = was.class_fits; ever_fits = was.ever_fits; ever_counts = omega (arith, was.ever_counts, fewer) };
+        let was = core.supers_fit place super there in
+        let fewer = used_less place in
+        record { class_fits = was.class_fits; ever_fits = was.ever_fits; ever_counts = omega (arith, was.ever_counts, fewer) };
   }
     where
       used_less : (place : ℕ) → count_in units place (used_from roots' bodies' 1 blocks) ≤ count_in units place (used_from roots bodies 1 blocks)
@@ -224,9 +233,9 @@ module _ (units : ℕ) (unit_count : IsUnitCount units) (roots : List RootWord) 
     placed = λ t b e used. core.placed t b (old t b e) used;
     apart = λ t u b e f used_t used_u. core.apart t u b (old t b e) (old u b f) used_t used_u;
     supers_fit = λ place super there.
-      let was = core.supers_fit place super there in
-      let same = used_count units place roots roots bodies bodies 1 blocks None (λ n lt used. used) in
-      record { class_fits = was.class_fits; ever_fits = was.ever_fits; ever_counts = omega (arith, was.ever_counts, same) };
+        let was = core.supers_fit place super there in
+        let same = used_count units place roots roots bodies bodies 1 blocks None (λ n lt used. used) in
+        record { class_fits = was.class_fits; ever_fits = was.ever_fits; ever_counts = omega (arith, was.ever_counts, same) };
   }
     where
       old : (t : ℕ) (b : BlockState) → found (blocks ++ None ∷ []) t ≡ Some b → found blocks t ≡ Some b
@@ -263,6 +272,7 @@ module _ (units : ℕ) (unit_count : IsUnitCount units) (roots : List RootWord) 
       where
         classes : (place : ℕ) (super : Super) → slice_get supers place ≡ Some super → super.class ≤ 3
         classes place super there = (core.supers_fit place super there).class_fits
+
         at_place : (was : IsPlaced units supers b) → was.place ≡ new.place → IsPlaced units (supers_with units supers block) b
         at_place was same =
             let same_super : was.super ≡ new.super = same_Some was.super new.super (sym was.there ∙ ap (slice_get supers) same ∙ new.there) in
@@ -270,7 +280,9 @@ module _ (units : ℕ) (unit_count : IsUnitCount units) (roots : List RootWord) 
             let some = count_some units new.place (used_from roots bodies 1 blocks) i b there (ap (λ k. stands_in units k b) (sym same) ∙ stands_here units supers unit_count classes b was) in
             let class_is : was.super.class ≡ class = ap (λ (s : Super). s.class) same_super ∙ ⊎_elim (λ of_class. of_class) (λ empty. absurd (omega (arith, some, empty))) new.room in
             record {
-              place = was.place; bit = was.bit; super = record { class = class; ever = risen new.super.ever };
+              place = was.place;
+              bit = was.bit;
+              super = record { class = class; ever = risen new.super.ever };
               there = ap (slice_get (supers_with units supers block)) same ∙ super_here;
               block_is = was.block_is ∙ ap (λ k. block_at units was.place k was.bit) class_is;
               below = subst (λ k. was.bit < capacity units k) class_is was.below;
@@ -285,15 +297,15 @@ module _ (units : ℕ) (unit_count : IsUnitCount units) (roots : List RootWord) 
     fits_with bs' most place super there =
         ⊎_elim
         (λ same.
-          let is_super : record { class = class; ever = risen new.super.ever } ≡ super = same_Some (record { class = class; ever = risen new.super.ever }) super (sym super_here ∙ sym (ap (slice_get (supers_with units supers block)) same) ∙ there) in
-          let was = core.supers_fit new.place new.super new.there in
-          let one : count_in units new.place (block ∷ []) ≤ 1 = at_most new.place in
-          let here : count_in units place bs' ≤ risen new.super.ever = ever_more (count_in units place bs') (let m = most place in subst (λ k. count_in units k bs' ≤ count_in units new.place (used_from roots bodies 1 blocks) + 1) (sym same) (omega (arith, one, most new.place))) in
-          subst (λ (s : Super). SuperFits units bs' place s) is_super (record { class_fits = fits; ever_fits = omega (arith, was.ever_fits); ever_counts = here }))
+        let is_super : record { class = class; ever = risen new.super.ever } ≡ super = same_Some (record { class = class; ever = risen new.super.ever }) super (sym super_here ∙ sym (ap (slice_get (supers_with units supers block)) same) ∙ there) in
+        let was = core.supers_fit new.place new.super new.there in
+        let one : count_in units new.place (block ∷ []) ≤ 1 = at_most new.place in
+        let here : count_in units place bs' ≤ risen new.super.ever = ever_more (count_in units place bs') (let m = most place in subst (λ k. count_in units k bs' ≤ count_in units new.place (used_from roots bodies 1 blocks) + 1) (sym same) (omega (arith, one, most new.place))) in
+        subst (λ (s : Super). SuperFits units bs' place s) is_super (record { class_fits = fits; ever_fits = omega (arith, was.ever_fits); ever_counts = here }))
         (λ differ.
-          let was = core.supers_fit place super (sym (super_other place differ) ∙ there) in
-          let none : count_in units place (block ∷ []) ≡ 0 = elsewhere place differ (stands_in units place block) refl in
-          record { class_fits = was.class_fits; ever_fits = was.ever_fits; ever_counts = omega (arith, was.ever_counts, most place, none) })
+        let was = core.supers_fit place super (sym (super_other place differ) ∙ there) in
+        let none : count_in units place (block ∷ []) ≡ 0 = elsewhere place differ (stands_in units place block) refl in
+        record { class_fits = was.class_fits; ever_fits = was.ever_fits; ever_counts = omega (arith, was.ever_counts, most place, none) })
         (cases_eq place new.place)
       where
         at_most : (place : ℕ) → count_in units place (block ∷ []) ≤ 1
@@ -302,6 +314,7 @@ module _ (units : ℕ) (unit_count : IsUnitCount units) (roots : List RootWord) 
             by : (x : Bool) → ◌≤◌ (cond x 1 0 + 0) 1
             by true = omega arith
             by false = omega arith
+
         elsewhere : (place : ℕ) → place ≢ new.place → (x : Bool) → stands_in units place block ≡ x → ◌≡◌ {A = ℕ} (cond x 1 0 + 0) 0
         elsewhere place differ false e = refl
         elsewhere place differ true e =
@@ -329,7 +342,7 @@ module _ (units : ℕ) (unit_count : IsUnitCount units) (roots : List RootWord) 
         new_stands =
             let unit_is : block.unit / units ≡ new.place = ap (λ (x : BlockState). x.unit / units) new.block_is ∙ place_of_unit units class new.place new.bit unit_count fits new.below in
             let first : block.unit ≡ new.place * units + new.bit * block_units block.class =
-              ap (λ (x : BlockState). x.unit) new.block_is ∙ ap (λ k. new.place * units + new.bit * block_units k) (sym (ap (λ (x : BlockState). x.class) new.block_is)) in
+            ap (λ (x : BlockState). x.unit) new.block_is ∙ ap (λ k. new.place * units + new.bit * block_units k) (sym (ap (λ (x : BlockState). x.class) new.block_is)) in
             Rattle.std.proofs.lemmas.Bool.and_from (stands_in units new.place block) (nat_eq block.unit (new.place * units + new.bit * block_units block.class))
             (Rattle.std.proofs.Common.eq-eqb (block.unit / units) new.place unit_is) (Rattle.std.proofs.Common.eq-eqb block.unit (new.place * units + new.bit * block_units block.class) first)
 
@@ -339,20 +352,23 @@ module _ (units : ℕ) (unit_count : IsUnitCount units) (roots : List RootWord) 
       where
         most : (place : ℕ) → count_in units place (used_from roots' bodies' 1 (blocks ++ Some block ∷ [])) ≤ count_in units place (used_from roots bodies 1 blocks) + count_in units place (block ∷ [])
         most place = used_count units place roots roots' bodies bodies' 1 blocks (Some block) (λ n lt used. (in_use roots bodies n).1 (less n ((in_use roots' bodies' n).0 used) (λ same. absurd (omega (arith, lt, same)))))
+
         is_block : (t : ℕ) (b : BlockState) → t ≡ suc (length blocks) → found (blocks ++ Some block ∷ []) t ≡ Some b → block ≡ b
         is_block t b same e = same_Some block b (sym (found_new blocks (Some block) t same) ∙ e)
+
         placed : (t : ℕ) (b : BlockState) → found (blocks ++ Some block ∷ []) t ≡ Some b → Uses roots' bodies' t → IsPlaced units (supers_with units supers block) b
         placed t b e used =
             ⊎_elim
             (λ same. subst (IsPlaced units (supers_with units supers block)) (is_block t b same e)
-              (record { place = new.place; bit = new.bit; super = record { class = class; ever = risen new.super.ever }; there = super_here; block_is = new.block_is; below = new.below }))
+            (record { place = new.place; bit = new.bit; super = record { class = class; ever = risen new.super.ever }; there = super_here; block_is = new.block_is; below = new.below }))
             (λ differ. still_placed t b (sym (found_other blocks (Some block) t differ) ∙ e) (less t used differ))
             (cases_eq t (suc (length blocks)))
+
         apart : (t u : ℕ) (b : BlockState) → found (blocks ++ Some block ∷ []) t ≡ Some b → found (blocks ++ Some block ∷ []) u ≡ Some b → Uses roots' bodies' t → Uses roots' bodies' u → t ≡ u
         apart t u b e f used_t used_u =
             ⊎_elim
             (λ same_t. ⊎_elim (λ same_u. same_t ∙ sym same_u)
-              (λ differ_u. absurd (not_had u (sym (found_other blocks (Some block) u differ_u) ∙ f ∙ ap Some (sym (is_block t b same_t e))) (less u used_u differ_u))) (cases_eq u (suc (length blocks))))
+            (λ differ_u. absurd (not_had u (sym (found_other blocks (Some block) u differ_u) ∙ f ∙ ap Some (sym (is_block t b same_t e))) (less u used_u differ_u))) (cases_eq u (suc (length blocks))))
             (λ differ_t. ⊎_elim (λ same_u. absurd (not_had t (sym (found_other blocks (Some block) t differ_t) ∙ e ∙ ap Some (sym (is_block u b same_u f))) (less t used_t differ_t)))
-              (λ differ_u. core.apart t u b (sym (found_other blocks (Some block) t differ_t) ∙ e) (sym (found_other blocks (Some block) u differ_u) ∙ f) (less t used_t differ_t) (less u used_u differ_u)) (cases_eq u (suc (length blocks))))
+            (λ differ_u. core.apart t u b (sym (found_other blocks (Some block) t differ_t) ∙ e) (sym (found_other blocks (Some block) u differ_u) ∙ f) (less t used_t differ_t) (less u used_u differ_u)) (cases_eq u (suc (length blocks))))
             (cases_eq t (suc (length blocks)))

@@ -57,6 +57,7 @@ future_named futures u = (there futures, back futures)
     is_u : (o : Option ℕ) → is_task u o ≡ true → o ≡ Some u
     is_u None e = absurd (false≢true e)
     is_u (Some v) e = ap Some (eqb-true v u e)
+
     there : (futures : List (Option ℕ)) → list_any (is_task u) futures ≡ true → (x : ℕ) × (future_at futures x ≡ Some u)
     there [] e = absurd (false≢true e)
     there (f ∷ fs) e = let (at, o, get, passes) = any_true (is_task u) (f ∷ fs) e in (at, read (f ∷ fs) at o get ∙ is_u o passes)
@@ -65,10 +66,12 @@ future_named futures u = (there futures, back futures)
         read [] at o g = absurd (none-some o g)
         read (f ∷ fs) zero o g = same_Some f o g
         read (f ∷ fs) (suc at) o g = read fs at o g
+
     get : (fs : List (Option ℕ)) (x : ℕ) → future_at fs x ≡ Some u → slice_get fs x ≡ Some (Some u)
     get [] x e = absurd (none-some u e)
     get (f ∷ fs) zero e = ap Some e
     get (f ∷ fs) (suc x) e = get fs x e
+
     back : (futures : List (Option ℕ)) → ((x : ℕ) × (future_at futures x ≡ Some u)) → list_any (is_task u) futures ≡ true
     back futures (x, e) = any_from (is_task u) futures x (Some u) (get futures x e) (eq-eqb u u refl)
 
@@ -78,6 +81,7 @@ body_named (OfMembers members next) u = (there, back)
   where
     there : has u members ≡ true → (at : ℕ) × (slice_get members at ≡ Some u)
     there e = let (at, v, get, passes) = any_true (nat_eq u) members e in (at, get ∙ sym (ap Some (eqb-true u v passes)))
+
     back : ((at : ℕ) × (slice_get members at ≡ Some u)) → has u members ≡ true
     back (at, e) = any_from (nat_eq u) members at u e (eq-eqb u u refl)
 
@@ -110,12 +114,14 @@ in_use roots bodies u = (there, back)
     by_body : (at : ℕ) (o : Option Body) → slice_get bodies at ≡ Some o → task_names u o ≡ true → (t : ℕ) × (body : Body) × (found bodies t ≡ Some body) × BodyNames body u
     by_body at None get e = absurd (false≢true e)
     by_body at (Some body) get e = (suc at, body, ap flat get, (body_named body u).0 e)
+
     there : is_in_use roots bodies u ≡ true → Uses roots bodies u
     there e =
         ⊎_elim (λ h. inl (open_so (found bodies u) h))
         (λ h. inr (⊎_elim (λ g. let (at, word, get, passes) = any_true (root_names u) roots g in inl (at, get ∙ ap Some ((root_named_so word u).0 passes)))
-          (λ g. let (at, o, get, passes) = any_true (task_names u) bodies g in inr (by_body at o get passes)) (or_true (list_any (root_names u) roots) (list_any (task_names u) bodies) h)))
+        (λ g. let (at, o, get, passes) = any_true (task_names u) bodies g in inr (by_body at o get passes)) (or_true (list_any (root_names u) roots) (list_any (task_names u) bodies) h)))
         (or_true (is_open (found bodies u)) (list_any (root_names u) roots || list_any (task_names u) bodies) e)
+
     body_back : (t : ℕ) (body : Body) → found bodies t ≡ Some body → BodyNames body u → list_any (task_names u) bodies ≡ true
     body_back zero body e named = absurd (none-some body e)
     body_back (suc at) body e named = by (slice_get bodies at) refl e
@@ -123,6 +129,7 @@ in_use roots bodies u = (there, back)
         by : (o : Option (Option Body)) → slice_get bodies at ≡ o → flat o ≡ Some body → list_any (task_names u) bodies ≡ true
         by None get f = absurd (none-some body f)
         by (Some o) get f = any_from (task_names u) bodies at o get (ap (task_names u) f ∙ (body_named body u).1 named)
+
     back : Uses roots bodies u → is_in_use roots bodies u ≡ true
     back (inl some) = or_left (is_open (found bodies u)) (list_any (root_names u) roots || list_any (task_names u) bodies) (open_from (found bodies u) some)
     back (inr (inl (at, get))) =

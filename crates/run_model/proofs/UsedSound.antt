@@ -59,15 +59,15 @@ module _ (units place : ℕ) (b : BlockState) (bs : List BlockState) where
       let other = set_count-cons (list_any (stands_at units place bit) bs) (set_in units place bs (suc bit) left) in
       ⊎_elim
       (λ same.
-        let set : ◌≡◌ {A = ℕ} (cond (stands_at units place bit b || list_any (stands_at units place bit) bs) 1 0) 1 = ap (λ x. cond (x || list_any (stands_at units place bit) bs) 1 0) (ap (λ j. stands_at units place j b) same ∙ here) in
-        let clear : ◌≡◌ {A = ℕ} (cond (list_any (stands_at units place bit) bs) 1 0) 0 = ap (λ x. cond x 1 0) (ap (λ j. list_any (stands_at units place j) bs) same ∙ none) in
-        let rest = set_same (suc bit) left (λ j le. others j (λ e. absurd (omega (arith, le, e, same)))) in
-        omega (arith, one, other, set, clear, rest))
+      let set : ◌≡◌ {A = ℕ} (cond (stands_at units place bit b || list_any (stands_at units place bit) bs) 1 0) 1 = ap (λ x. cond (x || list_any (stands_at units place bit) bs) 1 0) (ap (λ j. stands_at units place j b) same ∙ here) in
+      let clear : ◌≡◌ {A = ℕ} (cond (list_any (stands_at units place bit) bs) 1 0) 0 = ap (λ x. cond x 1 0) (ap (λ j. list_any (stands_at units place j) bs) same ∙ none) in
+      let rest = set_same (suc bit) left (λ j le. others j (λ e. absurd (omega (arith, le, e, same)))) in
+      omega (arith, one, other, set, clear, rest))
       (λ differ.
-        let kept : ◌≡◌ {A = ℕ} (cond (stands_at units place bit b || list_any (stands_at units place bit) bs) 1 0) (cond (list_any (stands_at units place bit) bs) 1 0) =
-          ap (λ x. cond (x || list_any (stands_at units place bit) bs) 1 0) (others bit differ) in
-        let rest = set_more (suc bit) left k (omega (arith, from, differ)) (omega (arith, below)) here others none in
-        omega (arith, one, other, kept, rest))
+      let kept : ◌≡◌ {A = ℕ} (cond (stands_at units place bit b || list_any (stands_at units place bit) bs) 1 0) (cond (list_any (stands_at units place bit) bs) 1 0) =
+      ap (λ x. cond (x || list_any (stands_at units place bit) bs) 1 0) (others bit differ) in
+      let rest = set_more (suc bit) left k (omega (arith, from, differ)) (omega (arith, below)) here others none in
+      omega (arith, one, other, kept, rest))
       (cases_eq bit k)
 
 module _ (units : ℕ) (supers : List Super) (unit_count : IsUnitCount units) (classes : (place : ℕ) (super : Super) → slice_get supers place ≡ Some super → super.class ≤ 3) where
@@ -87,6 +87,7 @@ module _ (units : ℕ) (supers : List Super) (unit_count : IsUnitCount units) (c
     where
       unit_is : b.unit ≡ placed.place * units + placed.bit * block_units placed.super.class
       unit_is = ap (λ (x : BlockState). x.unit) placed.block_is
+
       class_is : b.class ≡ placed.super.class
       class_is = ap (λ (x : BlockState). x.class) placed.block_is
 
@@ -99,7 +100,7 @@ module _ (units : ℕ) (supers : List Super) (unit_count : IsUnitCount units) (c
       let class_is : b.class ≡ placed.super.class = ap (λ (x : BlockState). x.class) placed.block_is in
       let unit_is : b.unit ≡ placed.place * units + placed.bit * block_units placed.super.class = ap (λ (x : BlockState). x.unit) placed.block_is in
       let other_unit : b.unit ≡ placed.place * units + k * block_units placed.super.class =
-        eqb-true b.unit (place * units + k * block_units b.class) at_unit ∙ ap (λ j. j * units + k * block_units b.class) (sym same) ∙ ap (λ class. placed.place * units + k * block_units class) class_is in
+      eqb-true b.unit (place * units + k * block_units b.class) at_unit ∙ ap (λ j. j * units + k * block_units b.class) (sym same) ∙ ap (λ class. placed.place * units + k * block_units class) class_is in
       (same, bits_same placed.super.class k placed.bit fits (omega (arith, unit_is, other_unit)))
 
   -- the count is that of the bits that are set
@@ -113,6 +114,7 @@ module _ (units : ℕ) (supers : List Super) (unit_count : IsUnitCount units) (c
     where
       placed : IsPlaced units supers b
       placed = all 0 b refl
+
       others_differ : (k : ℕ) → stands_at units place k b ≡ true → list_any (stands_at units place k) bs ≡ false
       others_differ k here = no (list_any (stands_at units place k) bs) refl
         where
@@ -127,16 +129,21 @@ module _ (units : ℕ) (supers : List Super) (unit_count : IsUnitCount units) (c
               let same_bit : placed.bit ≡ placed'.bit = sym one.1 ∙ two.1 in
               let same_super : placed.super ≡ placed'.super = same_Some placed.super placed'.super (sym placed.there ∙ ap (slice_get supers) same_place ∙ placed'.there) in
               let same : b ≡ other = placed.block_is ∙ ap (λ j. block_at units j placed.super.class placed.bit) same_place ∙ ap (λ (s : Super). block_at units placed'.place s.class placed.bit) same_super
-                ∙ ap (block_at units placed'.place placed'.super.class) same_bit ∙ sym placed'.block_is in
+              ∙ ap (block_at units placed'.place placed'.super.class) same_bit ∙ sym placed'.block_is in
               absurd (omega (arith, differ 0 (suc at) b refl (there ∙ sym (ap Some same))))
+
       by : (x : Bool) → stands_in units place b ≡ x → count_in units place bs ≡ set_count (set_in units place bs 0 units) → cond x 1 0 + count_in units place bs ≡ set_count (set_in units place (b ∷ bs) 0 units)
       by false e rest = omega (arith, rest, set_same units place b bs 0 units (λ k le. ap (λ x. x && nat_eq b.unit (place * units + k * block_units b.class)) e))
       by true e rest =
           let same = is_place b placed place e in
           let here : stands_at units place placed.bit b ≡ true = ap (λ j. stands_at units j placed.bit b) (sym same) ∙ stands_bit b placed in
           let whole = capacity_fills units placed.super.class unit_count (classes placed.place placed.super placed.there) in
-          omega (arith, rest, set_more units place b bs 0 units placed.bit (omega arith) (omega (arith, placed.below, whole.2)) here
-            (λ j differs. no j differs (stands_at units place j b) refl) (others_differ placed.bit here))
+          omega (
+            arith,
+            rest,
+            set_more units place b bs 0 units placed.bit (omega arith) (omega (arith, placed.below, whole.2)) here
+                (λ j differs. no j differs (stands_at units place j b) refl) (others_differ placed.bit here),
+          )
         where
           no : (j : ℕ) → j ≢ placed.bit → (x : Bool) → stands_at units place j b ≡ x → x ≡ false
           no j differs false f = refl
@@ -235,7 +242,7 @@ module _ (units : ℕ) (supers : List Super) (bs : List BlockState) (unit_count 
     few = omega (arith, few, superblocks_length units bs 0 supers);
     unit_count = unit_count;
     kept = λ at s e. let (super, there, is_s) = superblock_at units bs 0 at supers s e in
-      let same : 0 + at ≡ at = omega arith in subst (IsKept units) (sym (is_s ∙ ap (λ k. superblock_of units bs k super) same)) (kept at super there);
+        let same : 0 + at ≡ at = omega arith in subst (IsKept units) (sym (is_s ∙ ap (λ k. superblock_of units bs k super) same)) (kept at super there);
   }
 
   pub out_of : (at : ℕ) (b : BlockState) → slice_get bs at ≡ Some b → IsOut (pool_with units supers bs) b
@@ -246,11 +253,13 @@ module _ (units : ℕ) (supers : List Super) (bs : List BlockState) (unit_count 
       let zero_plus : 0 + placed.place ≡ placed.place = omega arith in
       let zero_bit : 0 + placed.bit ≡ placed.bit = omega arith in
       record {
-        place = placed.place; bit = placed.bit; superblock = superblock_of units bs placed.place placed.super;
+        place = placed.place;
+        bit = placed.bit;
+        superblock = superblock_of units bs placed.place placed.super;
         at = record {
           there = superblock_from units bs 0 placed.place supers placed.super placed.there ∙ ap (λ k. Some (superblock_of units bs k placed.super)) zero_plus;
           is_set = set_in_at units placed.place bs 0 units placed.bit lt ∙ ap (λ k. Some (list_any (stands_at units placed.place k) bs)) zero_bit
-            ∙ ap Some (any_from (stands_at units placed.place placed.bit) bs at b has (stands_bit units supers unit_count classes_of b placed));
+              ∙ ap Some (any_from (stands_at units placed.place placed.bit) bs at b has (stands_bit units supers unit_count classes_of b placed));
           block_is = placed.block_is;
         };
       }

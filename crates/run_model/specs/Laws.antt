@@ -4,10 +4,12 @@ use Rattle.task_syntax.specs.Places.{Each, EachAt}
 use Rattle.task_syntax.specs.Form.{IsWellFormed}
 use Rattle.task_syntax.specs.declared.program.Program.{Program}
 use Rattle.task_syntax.specs.declared.columns.Columns.{Columns}
-use Rattle.pool_core.specs.Blocks.{BlockState}
+use Rattle.kt_words.specs.Ranges.{IsGeometry}
+use Rattle.pool_core.specs.Blocks.{BlockState, HasUnit}
 use Rattle.pool_core.specs.Pool.{PoolState, Gives, HasNoRoom, IsSound}
 use Rattle.task_meaning.specs.Meant.{future_at}
-use Rattle.record_core.specs.Numbers.{by_number, HasTask}
+use Rattle.frame_code.specs.Words.{OfKind, OfMembers}
+use Rattle.record_core.specs.Numbers.{by_number, found, HasTask}
 use Rattle.record_core.specs.Journal.{AreOfTasks, AreStampedOnce, AreInOrder, CausesLead, Leads, task_count, finish_of, cause_of}
 use Rattle.record_core.specs.JournalLaws.{GrowsFrom}
 use Rattle.record_core.specs.EndSeen.{EndSeen, RunPlan}
@@ -19,9 +21,9 @@ use Rattle.record_core.specs.declared.rows.RootEnd.TheVariants.{Cut}
 use Rattle.record_core.specs.declared.rows.CutTag.{CutTag}
 use Rattle.record_core.specs.declared.rows.CutTag.TheVariants.{Limit}
 use Rattle.record_core.specs.declared.rows.CutFrom.TheVariants.{Host, Task}
-use Rattle.run_model.specs.State.{Run}
-use Rattle.run_model.specs.Placing.{placed}
-use Rattle.run_model.specs.Step.{steps}
+use Rattle.run_model.specs.State.{Body, Named, Run}
+use Rattle.run_model.specs.Placing.{placed, pool_of}
+use Rattle.run_model.specs.Step.{step, steps}
 use Rattle.run_model.specs.End.{OneThreadRun, state_at, end_seen}
 
 -- two ends of the run of one program are the same
@@ -73,3 +75,27 @@ EndsAreFaithful = (p : Program) (c : Columns) (plan : RunPlan) (end : Run) → I
 
 abbrev pub EndsSkipAsNamed : Type 0
 EndsSkipAsNamed = (p : Program) (c : Columns) (plan : RunPlan) (end : Run) → IsWellFormed p → OneThreadRun p c plan end → EachAt (end_seen plan end).roots (IsCutAsNamed p (end_seen plan end).roots)
+
+-- at each moment the pool of the blocks in use is sound
+abbrev pub PoolsAreSound : Type 0
+PoolsAreSound = (p : Program) (c : Columns) (plan : RunPlan) (taken : ℕ) → IsGeometry plan.superblocks plan.units → IsSound (pool_of plan.units (state_at p c plan taken))
+
+-- a body names a task: by a future of its frame, or among its members
+abbrev pub BodyRefers : Body → ℕ → Type 0
+BodyRefers (OfKind q) u = (x : ℕ) × (future_at q.futures x ≡ Some u)
+BodyRefers (OfMembers members next) u = (at : ℕ) × (slice_get members at ≡ Some u)
+
+-- something refers to a task: it is unfinished, or a root has it, or the body of an unfinished task names it
+pub data IsReferred (r : Run) (u : ℕ) : Type 0 where
+  unfinished : HasTask r.journal.rows u → finish_of r.journal.tasks u ≡ None → IsReferred r u
+  of_root : (at : ℕ) → slice_get r.roots at ≡ Some (Named u) → IsReferred r u
+  named : (t : ℕ) (body : Body) → found r.bodies t ≡ Some body → BodyRefers body u → IsReferred r u
+
+-- No two tasks to which something refers have blocks that share a unit; and no step gives a block that shares one with the
+-- block of a task to which something referred before the step.
+pub record BlocksAreApart : Type 0 where
+  pub held : (p : Program) (c : Columns) (plan : RunPlan) (taken u w unit : ℕ) (one other : BlockState) → IsGeometry plan.superblocks plan.units → IsReferred (state_at p c plan taken) u → IsReferred (state_at p c plan taken) w
+      → found (state_at p c plan taken).blocks u ≡ Some one → found (state_at p c plan taken).blocks w ≡ Some other → HasUnit one unit → HasUnit other unit → u ≡ w
+  pub given : (p : Program) (c : Columns) (plan : RunPlan) (taken u n unit : ℕ) (one other : BlockState) → IsGeometry plan.superblocks plan.units → IsReferred (state_at p c plan taken) u
+      → found (state_at p c plan taken).blocks u ≡ Some one → found (state_at p c plan taken).blocks n ≡ None → found (step p c plan.units (state_at p c plan taken)).blocks n ≡ Some other
+      → HasUnit one unit → HasUnit other unit → ⊥

@@ -1,4 +1,4 @@
-ghost use Rattle.run_model.specs.Laws.{EndsAreFaithful, EndsAreInOrder, EndsSkipAsNamed, OneEnd, PlacesAsPoolsGive, StartsOnce};
+ghost use Rattle.run_model.specs.Laws.{BlocksAreApart, EndsAreFaithful, EndsAreInOrder, EndsSkipAsNamed, OneEnd, PlacesAsPoolsGive, PoolsAreSound, StartsOnce};
 ghost use Rattle.run_model.specs.Move.{RootsMove, StepsMove};
 ghost use Rattle.run_model.specs.RuleRuns.{RuleRuns};
 ghost use Rattle.run_model.specs.ExampleRuns.{ExampleRuns};
@@ -43,4 +43,14 @@ pub fn ends_are_in_order()
 pub fn ends_are_faithful()
     ensures faithful { EndsAreFaithful }
     ensures skipped { EndsSkipAsNamed }
+{}
+
+/// At each moment the blocks in use are those of a sound pool.
+pub fn pools_are_sound()
+    ensures { PoolsAreSound }
+{}
+
+/// No block is given that shares a unit with the block of a task to which something refers.
+pub fn blocks_are_apart()
+    ensures { BlocksAreApart }
 {}
