@@ -85,7 +85,7 @@ body_named (OfMembers members next) u = (there, back)
     back : ((at : ℕ) × (slice_get members at ≡ Some u)) → has u members ≡ true
     back (at, e) = any_from (nat_eq u) members at u e (eq-eqb u u refl)
 
-root_named_so : (word : RootWord) (u : ℕ) → root_names u word ≡ true ↔ (word ≡ Named u)
+pub root_named_so : (word : RootWord) (u : ℕ) → root_names u word ≡ true ↔ (word ≡ Named u)
 root_named_so (Named t) u = (λ e. ap Named (eqb-true t u e), λ e. eq-eqb t u (same e))
   where
     same : Named t ≡ Named u → t ≡ u
