@@ -26,9 +26,9 @@ zeros-read zero k = refl
 zeros-read (suc n) zero = refl
 zeros-read (suc n) (suc k) = zeros-read n k
 
-zeros-behind : (word n k : ℕ) → 1 ≤ k → slice_index (word ∷ replicate n 0) k ≡ 0
-zeros-behind word n zero h = absurd (omega (arith, h))
-zeros-behind word n (suc k) h = zeros-read n k
+zeros-after : (word n k : ℕ) → 1 ≤ k → slice_index (word ∷ replicate n 0) k ≡ 0
+zeros-after word n zero h = absurd (omega (arith, h))
+zeros-after word n (suc k) h = zeros-read n k
 
 numbers-zero : (w : ℕ → ℕ) (place : ℕ) (vs : List Variable) → ((k : ℕ) → place ≤ k → w k ≡ 0) → numbers_from w place vs ≡ replicate (length vs) 0
 numbers-zero w place [] h = refl
@@ -89,7 +89,7 @@ entry-frame p kind n formed valid within many =
     let few : n ≤ 63 = omega (arith, many, ap length vs_found, (valid.kinds kind found.0 found.1).few_variables) in
     let zeros : List ℕ = replicate n 0 in
     let zeros_long : length zeros ≡ n = length-replicate n 0 in
-    let none : (i : ℕ) → 1 ≤ i → slice_index words i ≡ 0 = zeros-behind head n in
+    let none : (i : ℕ) → 1 ≤ i → slice_index words i ≡ 0 = zeros-after head n in
     let numbers : numbers_from (slice_index words) 1 (variables_at p kind) ≡ padded (variables_of p kind) 0 []
     = numbers-zero (slice_index words) 1 (variables_at p kind) none ∙ ap (λ (m : ℕ). replicate m 0) (omega (arith, many, counted)) in
     let futures : futures_from (slice_index words) (1 + number_count (variables_at p kind)) (variables_at p kind) ≡ kept_from 0 (holds_at p kind 0) (padded (variables_of p kind) None [])

@@ -104,7 +104,7 @@ instr-within state at instr e = by (slice_get state.code at) refl e
     by None g e = cc
     by (Some line) g e = slice_get_within state.code at line g
 
--- behind a line that may go on there is another
+-- after a line that may go on there is another
 pub line-follows : (p : Program) (kind : Kind) (state : State) (at : ℕ) (line : Line) → IsFormedState p kind state → slice_get state.code at ≡ Some line
     → ¬ Leaves line.instr → at + 1 < length state.code
 line-follows p kind state at line formed e stays =

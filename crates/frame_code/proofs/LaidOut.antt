@@ -11,7 +11,7 @@ use Rattle.frame_code.specs.Line.{IsLaidOut, numbers_of, standing}
 use Rattle.frame_code.proofs.Variables.{sort-within, places-at, length-places, count-most, count-before, number-reads, number-sets, futures-same}
 
 module _ (kind : Kind) (x : ℕ) (number : IsNumberAt kind x) where
-  -- the place of a number variable is behind the control word, and before the futures
+  -- the place of a number variable is after the control word, and before the futures
   pub place-low : 1 ≤ number_place kind.variables x
   place-low = omega arith
 

@@ -28,7 +28,7 @@ use Rattle.frame_code.proofs.FrameWays.{way-on}
 use Rattle.frame_code.proofs.Aggregates.{refill-same, body-of_task}
 use Rattle.frame_code.proofs.MovedFrames.{task-stands, IsLineOf, line-of, moved-is_frame, moved-body}
 
--- behind a spawn, an aggregate, a copy, a drop and a read a task goes on
+-- after a spawn, an aggregate, a copy, a drop and a read a task goes on
 pub passed-remains : (instr : Instr) → IsPassed instr → ¬ Leaves instr
 passed-remains (Spawn to kind arguments waits priority retry) h l = l
 passed-remains (All to members priority retry) h l = l
@@ -40,7 +40,7 @@ read-remains : (instr : Instr) → IsRead instr → ¬ Leaves instr
 read-remains (Get to future) h l = l
 read-remains _ h l = h
 
--- a frame that stands at a line behind which the task goes on
+-- a frame that stands at a line after which the task goes on
 pub record GoesPast (p : Program) (old : List ℕ) (line : Line) : Type 0 where
   pub task : is_aggregate (slice_index old 0) ≡ false
   pub stands : slice_get (code_at p (control_kind (slice_index old 0)) (control_state (slice_index old 0))) (control_at (slice_index old 0)) ≡ Some line

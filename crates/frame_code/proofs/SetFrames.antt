@@ -31,7 +31,7 @@ pub long-as : (p : Program) (words : List ℕ) → IsFrame p words → is_aggreg
 long-as p words frame task = task-size p words frame task ∙ ap (λ n. 1 + n) (many (slice_get p.kinds (control_kind (slice_index words 0))))
 
 module _ (p : Program) (old : List ℕ) (frame : IsFrame p old) (task : is_aggregate (slice_index old 0) ≡ false) where
-  -- a word behind the control word changes variables alone
+  -- a word after the control word changes variables alone
   set-body : (place word : ℕ) (numbers : List ℕ) (futures : List (Option ℕ)) → 1 ≤ place
       → numbers_from (slice_index (slice_set old place word)) 1 (variables_at p (control_kind (slice_index old 0))) ≡ numbers
       → futures_from (slice_index (slice_set old place word)) (1 + number_count (variables_at p (control_kind (slice_index old 0)))) (variables_at p (control_kind (slice_index old 0))) ≡ futures

@@ -67,8 +67,8 @@ words-whole [] = refl
 words-whole (word ∷ words) = ap (λ ws. word ∷ ws) (words-shifted word words 0 (length words) ∙ words-whole words)
 
 -- the control word, and the words after it
-words-behind : (words : List ℕ) (n : ℕ) → length words ≡ 1 + n → (slice_index words 0 ∷ words_from (slice_index words) 1 n) ≡ words
-words-behind words n e = sym (words-one_more (slice_index words) 0 n) ∙ (ap (words_from (slice_index words) 0) (sym e) ∙ words-whole words)
+words-after : (words : List ℕ) (n : ℕ) → length words ≡ 1 + n → (slice_index words 0 ∷ words_from (slice_index words) 1 n) ≡ words
+words-after words n e = sym (words-one_more (slice_index words) 0 n) ∙ (ap (words_from (slice_index words) 0) (sym e) ∙ words-whole words)
 
 task-again : (p : Program) (words : List ℕ) → IsFrame p words → is_aggregate (slice_index words 0) ≡ false
     → frame_words (variables_at p (control_kind (slice_index words 0))) (frame_at p (slice_index words)) ≡ words
@@ -83,7 +83,7 @@ task-again p words frame task =
     ∙ (ap (λ ws. words_from w 1 (number_count vs) ++ ws) (futures-again w (1 + number_count vs) vs)
     ∙ (words-joined w 1 (number_count vs) (future_count vs) ∙ ap (words_from w 1) counts)) in
     ap (λ c. c ∷ (number_words vs (numbers_from w 1 vs) ++ future_words vs (futures_from w (1 + number_count vs) vs))) head
-    ∙ (ap (λ ws. slice_index words 0 ∷ ws) variables ∙ words-behind words (length vs) size)
+    ∙ (ap (λ ws. slice_index words 0 ∷ ws) variables ∙ words-after words (length vs) size)
   where
     many : (o : Option Kind) → variables_in o ≡ length (variable_list o)
     many None = refl
@@ -109,7 +109,7 @@ group-again p words frame group =
     = ap (λ k. control_word k (length (members_at (slice_index words))) (control_at (slice_index words 0))) (sym marked)
     ∙ (ap (λ m. control_word (control_kind (slice_index words 0)) m (control_at (slice_index words 0))) (members-known words known) ∙ word-of_parts (slice_index words 0) frame.control) in
     ap (λ c. c ∷ map suc (members_at (slice_index words))) head
-    ∙ (ap (λ ws. slice_index words 0 ∷ ws) (members-again (slice_index words) 1 n (λ k low high. known.named k low (omega (arith, high)))) ∙ words-behind words n size)
+    ∙ (ap (λ ws. slice_index words 0 ∷ ws) (members-again (slice_index words) 1 n (λ k low high. known.named k low (omega (arith, high)))) ∙ words-after words n size)
 
 pub words-again : (p : Program) (words : List ℕ) → IsWellFormed p → IsFrame p words → words_of_body p (body_of p words) ≡ words
 words-again p words formed frame = by (is_aggregate (slice_index words 0)) refl

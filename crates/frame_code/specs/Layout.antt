@@ -11,11 +11,11 @@ use Rattle.frame_code.specs.Control.{aggregate_code, control_word}
 use Rattle.frame_code.specs.Words.{BodyOf, OfKind, OfMembers, number_count, future_count, variables_at, body_of}
 use Rattle.frame_code.specs.Frames.{IsFrame}
 
--- where the word of a number variable stands: behind those of the numbers before it
+-- where the word of a number variable stands: after those of the numbers before it
 abbrev pub number_place : List Variable → ℕ → ℕ
 number_place vs x = 1 + number_count (take x vs)
 
--- where the word of a future variable stands: behind all numbers, and behind those of the futures before it
+-- where the word of a future variable stands: after all numbers, and after those of the futures before it
 abbrev pub future_place : List Variable → ℕ → ℕ
 future_place vs x = 1 + number_count vs + future_count (take x vs)
 

@@ -1,5 +1,5 @@
 -- What an aggregate asks for, and what is left of it. It begins behind its first member, and each later activation is behind
--- the next one; behind the last it is done with 0.
+-- the next one; once it was behind the last, it is done with 0.
 use Rattle.std.specs.Prelude.{◌≡◌, ℕ, suc, Option, Some, None, List, [], ◌∷◌, drop, slice_get}
 use Rattle.task_syntax.specs.declared.value.Value.{Value}
 use Rattle.task_syntax.specs.declared.value.Value.TheVariants.{Number}

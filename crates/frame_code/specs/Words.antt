@@ -1,4 +1,4 @@
--- What the words of a frame say. Behind the control word a task's frame has a word for each number variable, in order, and
+-- What the words of a frame say. After the control word a task's frame has a word for each number variable, in order, and
 -- then one for each future variable, in order; an aggregate's has a word for each member. Here `words` gives the word at a
 -- place, counted from 0: of a list it is `slice_index`.
 use Rattle.std.specs.Prelude.{ℕ, zero, suc, ◌+◌, cond, Option, Some, None, List, [], ◌∷◌, slice_get, slice_index}
