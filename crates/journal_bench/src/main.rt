@@ -3,8 +3,7 @@
 //! words it prints nothing.
 #![tactic(auto)]
 
-ghost use Rattle.std.specs.Prelude.{◌≡◌, ◌≤◌, IfSome, length};
-ghost use Rattle.record_core.specs.Journal.{JournalState, IsJournal};
+ghost use Rattle.std.specs.Prelude.{◌≤◌};
 
 use record_core::{Cause, PlainJournal};
 use std::alloc::Alloc;

@@ -1,5 +1,3 @@
-use Rattle.std.proofs.Common.{◌≡◌, ◌∙◌, ap, subst, sym}
-use Rattle.record_core.specs.Journal.{JournalState, next_number, with_accepted, with_begun, IsJournal, IsUnderWay}
 use Rattle.record_core.proofs.TurnFacts.{begun_under_way}
 use Rattle.journal_bench.proofs.take_turn.Goals as goal
 
