@@ -201,6 +201,7 @@ pub gives : (g : Plan) (i c : ℕ) (old p q r : Pass) (won : Reserved) (b : Bloc
 gives g i c old p q r won b near fits before place_found turns = record {
   is_block = subst (λ (u : ℕ). IsBlock g u c) (sym (ap (λ (x : BlockOf). x.unit) block_is)) (block_there g i c turns.bit near fits below);
   of_class = ap (λ (x : BlockOf). x.class) block_is;
+  fresh = ap (λ (x : BlockOf). x.fresh) block_is;
   view_is = turns.view_is ∙ from_start ∙ (λ k. leaves (kept k) (sym block_is k) (sym its_place k));
 }
   where

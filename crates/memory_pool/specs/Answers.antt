@@ -1,5 +1,5 @@
 -- What an allocation answers.
-use Rattle.std.specs.Prelude.{◌≡◌, ℕ, ◌∷◌}
+use Rattle.std.specs.Prelude.{◌≡◌, ℕ, ◌∷◌, true}
 use Rattle.kt_words.specs.declared.plan.Plan.{Plan}
 use Rattle.table_core.specs.Holdings.{Block as BlockOf}
 use Rattle.table_core.specs.Pool.{IsBlock, superblock_of}
@@ -10,10 +10,11 @@ use Rattle.memory_pool.specs.declared.allocated.Allocated.{Allocated}
 use Rattle.memory_pool.specs.declared.allocated.Allocated.TheVariants as allocated
 use Rattle.memory_pool.specs.Searches.{like, SawNoneBelow}
 
--- a block of the class, which the hand has beside what it had; it is one win of the pass
+-- a fresh block of the class, which the hand has beside what it had; it is one win of the pass
 pub record Gives (g : Plan) (c : ℕ) (old : View) (b : BlockOf) (new : View) : Type 0 where
   pub is_block : IsBlock g b.unit c
   pub of_class : b.class ≡ c
+  pub fresh : b.fresh ≡ true
   pub view_is : new ≡ record (like new old) { blocks = b ∷ old.blocks; wins = place (superblock_of g b.unit) c ∷ old.wins }
 
 -- in this call each superblock was seen without room, and nothing else has changed

@@ -5,6 +5,8 @@
 mod allocated;
 mod pool;
 mod search;
+#[cfg(test)]
+mod tests;
 
 pub use allocated::Allocated;
 pub use pool::{allocate, release};

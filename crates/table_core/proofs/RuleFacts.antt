@@ -73,54 +73,85 @@ module _ (g : Setup) (ws : List ℕ) (vs : List View) (holds : Holds g ws vs) wh
     where
       small : its_bit x < 512
       small = let is = is_block id k x has in omega (arith, bit_below g.plan x.unit x.class is, (blocks_fill g.plan.geometry x.class is.class_fits).2)
+
       f : Block → ℕ
       f z = hit3 (superblock_of g.plan z.unit) z.class (bit_of g.plan z.unit z.class) (its x) x.class (its_bit x)
+
       most : total (owns g.plan (its x) x.class (its_bit x)) hands ≤ 1
       most = one_owner (its x) x.class (its_bit x) (near id k x has) small
+
       hit_x : hit3 (its x) x.class (its_bit x) (its x) x.class (its_bit x) ≡ 1
       hit_x = one_hit id k x has
+
       hit_y : hit3 (its y) y.class (its_bit y) (its x) x.class (its_bit x) ≡ 1
       hit_y = sym (λ j. hit3 (same_place j) (same_class j) (same_bit j) (its x) x.class (its_bit x)) ∙ hit_x
+
       within : (id ≢ id') ⊎ (k ≢ k') → id ≡ id' → k ≢ k'
       within (inl ne) e = absurd (ne e)
       within (inr ne) e = ne
+
       one_pass : id ≡ id' → has'.pass ≡ has.pass
       one_pass e = same_some has'.pass has.pass (sym has'.at ∙ ap (λ (j : ℕ). slice_get vs j) (sym e) ∙ has.at)
+
       by : (id ≡ id') ⊎ (id ≢ id') → ⊥
       by (inl e) =
           let there : At has.pass.blocks k' y = subst (λ (v : View). At v.blocks k' y) (one_pass e) has'.there in
           let both : f x + f y ≤ total f has.pass.blocks = total-two_members f has.pass.blocks k k' x y (within apart e) has.there there in
           omega (arith, most, hit_x, hit_y, both, total-member (owns g.plan (its x) x.class (its_bit x)) hands id (seen pool has.pass) (hand_at id k x has))
       by (inr ne) =
-          omega (arith, most, hit_x, hit_y, total-member f has.pass.blocks k x has.there, total-member f has'.pass.blocks k' y has'.there,
-          total-two_members (owns g.plan (its x) x.class (its_bit x)) hands id id' (seen pool has.pass) (seen pool has'.pass) ne (hand_at id k x has) (hand_at id' k' y has'))
+          omega (
+            arith,
+            most,
+            hit_x,
+            hit_y,
+            total-member f has.pass.blocks k x has.there,
+            total-member f has'.pass.blocks k' y has'.there,
+            total-two_members (owns g.plan (its x) x.class (its_bit x)) hands id id' (seen pool has.pass) (seen pool has'.pass) ne (hand_at id k x has) (hand_at id' k' y has'),
+          )
 
   -- the block at an earlier bit ends before the block at a later one begins
   earlier_bit : (x y : Block) → IsBlock g.plan x.unit x.class → IsBlock g.plan y.unit y.class → its x ≡ its y → x.class ≡ y.class → its_bit x < its_bit y → x.unit + block_units x.class ≤ y.unit
   earlier_bit x y is is' same_place same_class lt =
       let up_to : suc (its_bit x) * block_units x.class ≤ its_bit y * block_units x.class = mul-le-mul_right (block_units x.class) (omega arith) in
-      omega (arith, is.at_its_place, is'.at_its_place, up_to, suc-mul (its_bit x) (block_units x.class),
-      ap (λ (i : ℕ). i * g.plan.geometry.units) same_place, ap (λ (c : ℕ). its_bit y * block_units c) same_class)
+      omega (
+        arith,
+        is.at_its_place,
+        is'.at_its_place,
+        up_to,
+        suc-mul (its_bit x) (block_units x.class),
+        ap (λ (i : ℕ). i * g.plan.geometry.units) same_place,
+        ap (λ (c : ℕ). its_bit y * block_units c) same_class,
+      )
 
   earlier_place : (x y : Block) → IsBlock g.plan x.unit x.class → IsBlock g.plan y.unit y.class → its x < its y → x.unit + block_units x.class ≤ y.unit
   earlier_place x y is is' lt =
       let up_to : suc (its x) * g.plan.geometry.units ≤ its y * g.plan.geometry.units = mul-le-mul_right g.plan.geometry.units (omega arith) in
-      omega (arith, is.at_its_place, is'.at_its_place, up_to, suc-mul (its x) g.plan.geometry.units,
-      blocks_end_inside g.plan.geometry x.class (its_bit x) is.class_fits (bit_below g.plan x.unit x.class is))
+      omega (
+        arith,
+        is.at_its_place,
+        is'.at_its_place,
+        up_to,
+        suc-mul (its x) g.plan.geometry.units,
+        blocks_end_inside g.plan.geometry x.class (its_bit x) is.class_fits (bit_below g.plan x.unit x.class is),
+      )
 
   apart_from : (id k id' k' : ℕ) (x y : Block) → HasAt vs id k x → HasAt vs id' k' y → (id ≢ id') ⊎ (k ≢ k') → AreApart x y
   apart_from id k id' k' x y has has' apart = places_of (cases_order (its x) (its y))
     where
       is : IsBlock g.plan x.unit x.class
       is = is_block id k x has
+
       is' : IsBlock g.plan y.unit y.class
       is' = is_block id' k' y has'
+
       class_same : its x ≡ its y → x.class ≡ y.class
       class_same e = sym (its_class id k x has) ∙ ap (λ (i : ℕ). class_of (supers i)) e ∙ its_class id' k' y has'
+
       bits_of : its x ≡ its y → (its_bit x ≡ its_bit y) ⊎ ((its_bit x < its_bit y) ⊎ (its_bit y < its_bit x)) → AreApart x y
       bits_of e (inl same) = absurd (not_both id k id' k' x y has has' apart e (class_same e) same)
       bits_of e (inr (inl lt)) = inl (earlier_bit x y is is' e (class_same e) lt)
       bits_of e (inr (inr gt)) = inr (earlier_bit y x is' is (sym e) (sym (class_same e)) gt)
+
       places_of : (its x ≡ its y) ⊎ ((its x < its y) ⊎ (its y < its x)) → AreApart x y
       places_of (inl e) = bits_of e (cases_order (its_bit x) (its_bit y))
       places_of (inr (inl lt)) = inl (earlier_place x y is is' lt)
@@ -132,8 +163,12 @@ module _ (g : Setup) (ws : List ℕ) (vs : List View) (holds : Holds g ws vs) wh
 
     nothing_of : (c : ℕ) (v : View) → HasNothing v → places g.plan i c (seen pool v) ≡ 0
     nothing_of c v none =
-        omega (arith, ap (total (λ (r : Place). hit r.superblock r.class i c)) none.reserved, ap (total (λ (b : Block). hit (superblock_of g.plan b.unit) b.class i c)) none.blocks,
-        ap (total (λ (d : Place). hit d.superblock d.class i c)) none.debts)
+        omega (
+          arith,
+          ap (total (λ (r : Place). hit r.superblock r.class i c)) none.reserved,
+          ap (total (λ (b : Block). hit (superblock_of g.plan b.unit) b.class i c)) none.blocks,
+          ap (total (λ (d : Place). hit d.superblock d.class i c)) none.debts,
+        )
 
     no_places : (c : ℕ) → total (places g.plan i c) hands ≡ 0
     no_places c = omega (arith, total-bounded (places g.plan i c) 0 hands (λ k h at. each_none k h at))
