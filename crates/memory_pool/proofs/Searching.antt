@@ -20,7 +20,7 @@ use Rattle.step_table.specs.declared.tokens.Reserved.{Reserved}
 use Rattle.step_table.specs.declared.tokens.Block.{Block}
 use Rattle.step_table.specs.Passes.{view, place_of, block_of, IsSame, HasPlace}
 use Rattle.step_table.specs.Steps.{Looks, Reserves, Claims}
-use Rattle.memory_pool.specs.Searches.{like, Grows, SeesMore, IsFull, SawNoRoom, SawNoneBelow, FindsPlace, FindsNoRoom, TurnsInto}
+use Rattle.memory_pool.specs.Searches.{like, Grows, SeesMore, IsFull, SawNoRoom, SawNoneBelow, FindsPlace, SeesNoRoom, TurnsInto}
 use Rattle.memory_pool.specs.Answers.{Gives}
 
 module _ {A : Type 0} where
@@ -99,7 +99,7 @@ look-sees i c word p q same e = record {
 }
 
 -- a look that saw no room ends the search of one superblock
-pub finds-no-room : (g : Plan) (i c : ℕ) (word : SuperWord) (old p q : Pass) → FitsSuperWord word → OnlySees old p → IsSame p q → Looks i c p word q → IsFull g word c → FindsNoRoom g i c old q
+pub finds-no-room : (g : Plan) (i c : ℕ) (word : SuperWord) (old p q : Pass) → FitsSuperWord word → OnlySees old p → IsSame p q → Looks i c p word q → IsFull g word c → SeesNoRoom g i c old q
 finds-no-room g i c word old p q fits before same e full =
     let says : SuperWordSays (packed_super word) word.count word.class word.ever = (super_word_says_its_value word fits).0 in
     let look : Look = look_of i c (packed_super word) (view p) in
@@ -171,14 +171,14 @@ block-later g now b old p q won before claims = sees-more-on (view old) (view p)
 })
 
 -- a superblock that had no room leaves the pass as it was, but for what it saw
-pub no-room-sees : (g : Plan) (i c : ℕ) (p q : Pass) → IsSame p q → SeesMore (view p) (view q) → FindsNoRoom g i c p q → OnlySees p q
+pub no-room-sees : (g : Plan) (i c : ℕ) (p q : Pass) → IsSame p q → SeesMore (view p) (view q) → SeesNoRoom g i c p q → OnlySees p q
 no-room-sees g i c p q same later none = record { same = same; stays = none.stays; later = later }
 
 pub saw-none-zero : (g : Plan) (c : ℕ) (l : List Look) → SawNoneBelow g c 0 l l
 saw-none-zero g c l = record { added = []; since = refl; each = λ i below. absurd (omega (arith, below)) }
 
 -- one superblock more without room
-pub saw-none-next : (g : Plan) (c n : ℕ) (old : List Look) (p q : Pass) → SawNoneBelow g c n old (view p).looks → FindsNoRoom g n c p q → SawNoneBelow g c (n + 1) old (view q).looks
+pub saw-none-next : (g : Plan) (c n : ℕ) (old : List Look) (p q : Pass) → SawNoneBelow g c n old (view p).looks → SeesNoRoom g n c p q → SawNoneBelow g c (n + 1) old (view q).looks
 saw-none-next g c n old p q before none = record {
   added = none.added ++ before.added;
   since = none.since ∙ ap (λ (l : List Look). none.added ++ l) before.since ∙ sym (append_assoc none.added before.added old);

@@ -51,7 +51,7 @@ pub record FindsPlace (i c : ℕ) (old : Pass) (won : Reserved) (new : Pass) : T
   pub view_is : view new ≡ reserved (place i c) (like (view new) (view old))
 
 -- a look made since saw the superblock without room, and nothing else has changed
-pub record FindsNoRoom (g : Plan) (i c : ℕ) (old new : Pass) : Type 0 where
+pub record SeesNoRoom (g : Plan) (i c : ℕ) (old new : Pass) : Type 0 where
   pub stays : view new ≡ like (view new) (view old)
   pub added : List Look
   pub since : (view new).looks ≡ added ++ (view old).looks

@@ -9,7 +9,8 @@ use crate::search::{claim_in, reserve_in};
 use std::sync::Wait;
 use step_table::{Block, Pass, Shared};
 
-/// Takes a block of a class from some superblock that has room for it. It takes no memory of its own.
+/// Takes a block of a class from some superblock that has room for it. It asks the system for no
+/// memory.
 pub fn allocate(shared: &Shared, rt: &impl Wait, pass: &mut Pass, class: u8) -> Allocated
     requires table { IsOf shared.now pass.old }
     requires class { class ≤ 3 }

@@ -2,7 +2,7 @@
 ghost use Rattle.std.specs.Prelude.{◌≡◌, ◌<◌, ◌≤◌, IsTrue, IfSome, IfNone};
 ghost use Rattle.kt_words.specs.Capacity.{capacity};
 ghost use Rattle.step_table.specs.Passes.{view, plan, place_of, IsOf, IsSame, HasPlace, TakesOne};
-ghost use Rattle.memory_pool.specs.Searches.{SeesMore, FindsPlace, FindsNoRoom, IsFull, TurnsInto};
+ghost use Rattle.memory_pool.specs.Searches.{SeesMore, FindsPlace, SeesNoRoom, IsFull, TurnsInto};
 
 use kt_words::{Plan, SuperWord};
 use std::sync::Wait;
@@ -32,7 +32,7 @@ pub fn reserve_in(
     ensures pass { IsSame pass.old pass.new }
     ensures later { SeesMore (view pass.old) (view pass.new) }
     ensures some { IfSome result (λ won. FindsPlace superblock class pass.old won pass.new) }
-    ensures none { IfNone result (FindsNoRoom (plan shared.now) superblock class pass.old pass.new) }
+    ensures none { IfNone result (SeesNoRoom (plan shared.now) superblock class pass.old pass.new) }
 {
     let plan = shared.plan();
     for _ in rt.forever() {

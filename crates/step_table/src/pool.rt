@@ -76,7 +76,7 @@ impl Shared {
         requires hand { HasPlace (plan self.now) (place_of reserved) (view pass.old).reserved }
         requires bit { bit < cap (plan self.now) reserved.class }
         ensures pass { IsSame pass.old pass.new }
-        ensures ok { IfOk result (λ won. Claims (plan self.now) reserved bit pass.old won pass.new) }
+        ensures ok { IfOk result (λ b. Claims (plan self.now) reserved bit pass.old b pass.new) }
         ensures err { IfErr result (λ lost. FindsSet reserved bit pass.old lost pass.new) }
     {
         let units = self.setup.plan.geometry.units;
