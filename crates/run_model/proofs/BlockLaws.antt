@@ -1,30 +1,29 @@
 -- The laws of the blocks in use.
-use Rattle.std.proofs.Common.{◌≡◌, ◌≢◌, ◌⊎◌, ℕ, suc, ◌+◌, ◌<◌, ◌≤◌, true, Option, Some, None, List, [], ◌∷◌, ◌++◌, length, slice_get, refl, sym, ◌∙◌, ap, subst, inl, inr, ⊎_elim, arith}
-use Rattle.std.specs.Prelude.{IsSome}
+use Rattle.std.proofs.Common.{◌≡◌, ℕ, suc, Option, Some, None, List, [], ◌∷◌, ◌++◌, length, refl, sym, ◌∙◌, ap, inl, inr, ⊎_elim, arith}
 use Rattle.std.specs.Option.{is_some}
 use Rattle.std.proofs.lemmas.Bool.{cases_eq}
-use Rattle.std.proofs.lemmas.Option.{none-some, same_Some}
+use Rattle.std.proofs.lemmas.Option.{none-some}
 use Rattle.task_syntax.specs.declared.program.Program.{Program}
 use Rattle.task_syntax.specs.declared.columns.Columns.{Columns}
 use Rattle.task_meaning.specs.Worths.{Respawn}
-use Rattle.task_meaning.specs.Frame.{FrameOf, set_future}
+use Rattle.task_meaning.specs.Frame.{set_future}
 use Rattle.frame_code.specs.Words.{OfKind, OfMembers}
 use Rattle.kt_words.specs.Ranges.{IsGeometry}
 use Rattle.kt_words.proofs.Powers.{unit_count}
 use Rattle.pool_core.specs.Blocks.{BlockState, HasUnit}
 use Rattle.pool_core.specs.Pool.{IsSound}
 use Rattle.pool_core.proofs.Apart.{blocks_apart as pool_apart}
-use Rattle.record_core.specs.Numbers.{flat, found, HasTask}
-use Rattle.record_core.specs.Journal.{next_number, finish_of}
+use Rattle.record_core.specs.Numbers.{flat, found}
+use Rattle.record_core.specs.Journal.{next_number}
 use Rattle.record_core.specs.EndSeen.{RunPlan}
 use Rattle.run_model.specs.State.{Body, Outcome, Run}
-use Rattle.run_model.specs.Placing.{pool_of, used_from, supers_with}
-use Rattle.run_model.specs.Step.{arrives, waits_or_queues, accepts, draws, with_body, step, steps, asked}
+use Rattle.run_model.specs.Placing.{used_from, supers_with}
+use Rattle.run_model.specs.Step.{arrives, waits_or_queues, accepts, draws, with_body, step}
 use Rattle.run_model.specs.Move.{with_notes, Move, StaysOrMoves}
 use Rattle.run_model.specs.End.{state_at}
-use Rattle.run_model.specs.Laws.{BodyRefers, IsReferred, BlocksAreApart, PoolsAreSound}
+use Rattle.run_model.specs.Laws.{IsReferred, BlocksAreApart, PoolsAreSound}
 use Rattle.run_model.proofs.ByNumber.{found_new, found_other, found_old, found_within}
-use Rattle.run_model.proofs.NumbersInvariant.{BodyNames, NumbersStand}
+use Rattle.run_model.proofs.NumbersInvariant.{NumbersStand}
 use Rattle.run_model.proofs.LiveFacts.{read_snoc}
 use Rattle.run_model.proofs.NamesFacts.{asks_named}
 use Rattle.run_model.proofs.Traversal.{step_moves}

@@ -1,6 +1,6 @@
 -- Each move keeps the blocks in use apart, each out of a sound pool.
-use Rattle.std.proofs.Common.{◌≡◌, ◌≢◌, ◌⊎◌, ℕ, zero, suc, ◌+◌, ◌<◌, ◌≤◌, Bool, true, false, cond, Option, Some, None, List, [], ◌∷◌, ◌++◌, length, slice_get, refl, sym, ◌∙◌, ap, subst, inl, inr, ⊎_elim, arith, nat_le, replicate}
-use Rattle.std.specs.Prelude.{IsSome, MatchOption}
+use Rattle.std.proofs.Common.{◌≡◌, ◌≢◌, ℕ, zero, suc, ◌+◌, ◌≤◌, Bool, true, false, cond, Option, Some, None, List, [], ◌∷◌, ◌++◌, length, slice_get, refl, sym, ◌∙◌, ap, subst, inl, inr, ⊎_elim, arith, nat_le, replicate}
+use Rattle.std.specs.Prelude.{IsSome}
 use Rattle.std.specs.Option.{is_some}
 use Rattle.std.proofs.lemmas.Bool.{cases_eq, false≢true}
 use Rattle.std.proofs.lemmas.Option.{none-some, same_Some, MatchOption-at_some, MatchOption-at_none}
@@ -8,34 +8,34 @@ use Rattle.task_syntax.specs.declared.value.Priority.{Priority}
 use Rattle.task_syntax.specs.declared.program.Root.{Root as RootLine}
 use Rattle.task_syntax.specs.declared.program.Program.{Program}
 use Rattle.task_syntax.specs.declared.columns.Columns.{Columns}
-use Rattle.task_meaning.specs.Worths.{Accepted, OfCall, OfAll, Respawn}
+use Rattle.task_meaning.specs.Worths.{Accepted, Respawn}
 use Rattle.task_meaning.specs.Frame.{FrameOf, set_future, variables_of}
 use Rattle.frame_code.specs.Words.{OfKind}
-use Rattle.kt_words.specs.Ranges.{IsGeometry, IsUnitCount}
+use Rattle.kt_words.specs.Ranges.{IsGeometry}
 use Rattle.kt_words.specs.Capacity.{class_for}
 use Rattle.kt_words.proofs.Powers.{unit_count}
-use Rattle.pool_core.specs.Blocks.{BlockState, block_at}
+use Rattle.pool_core.specs.Blocks.{BlockState}
 use Rattle.pool_core.specs.Pool.{PoolState, Gives, HasNoRoom, IsSound}
 use Rattle.record_core.specs.Numbers.{by_number, put_number, flat, found, HasTask}
 use Rattle.record_core.specs.Journal.{next_number}
 use Rattle.record_core.specs.EndSeen.{RunPlan}
-use Rattle.record_core.specs.EndSound.{kind_class, members_class}
+use Rattle.record_core.specs.EndSound.{kind_class}
 use Rattle.record_core.specs.declared.rows.ActivationRow.{ActivationRow}
 use Rattle.record_core.specs.declared.rows.CutTag.{CutTag}
 use Rattle.record_core.specs.declared.rows.CutTag.TheVariants.{Null, Limit}
 use Rattle.run_model.specs.State.{Body, Outcome, RootWord, Named, Refused, Skipped, Super, Queues, Run, next_queued}
 use Rattle.run_model.specs.Placing.{pool_of, placed, used_from, supers_with}
-use Rattle.run_model.specs.Step.{Request, tasks_named, arrives, waits_or_queues, accepts, draws, with_body, with_root, root_request, places, at_first}
+use Rattle.run_model.specs.Step.{Request, tasks_named, arrives, waits_or_queues, accepts, draws, with_body, with_root, root_request, at_first}
 use Rattle.run_model.specs.Move.{Notes, with_notes, RunsAt, Asks, Renews, Refuses, RefusesRoot, begins, Move, RootMove}
 use Rattle.run_model.proofs.Placed.{placed_gives}
-use Rattle.run_model.proofs.ByNumber.{length_snoc, number_within, snoc_new, snoc_cases, found_new, found_other, found_within, found_old, none_of_empty, has_some}
-use Rattle.run_model.proofs.NumbersInvariant.{BodyNames, NumbersStand}
-use Rattle.run_model.proofs.NamesFacts.{FrameNames, goes_names, asks_named, renews_named, set_named, root_named}
+use Rattle.run_model.proofs.ByNumber.{number_within, snoc_new, snoc_cases, found_new, found_other, found_old, none_of_empty}
+use Rattle.run_model.proofs.NumbersInvariant.{NumbersStand}
+use Rattle.run_model.proofs.NamesFacts.{goes_names, asks_named, renews_named, set_named, root_named}
 use Rattle.run_model.proofs.LiveFacts.{read_snoc, task_snoc, task_old, task_within, one_started, task_then, task_was}
 use Rattle.run_model.proofs.NumbersParts.{next_row, started_runs, held_starts}
 use Rattle.run_model.proofs.RunsFacts.{running_task, running_within}
 use Rattle.run_model.proofs.UsedFacts.{Uses}
-use Rattle.run_model.proofs.UsedSound.{SuperFits, BlocksFit, pool_with, sound_of, out_of}
+use Rattle.run_model.proofs.UsedSound.{SuperFits, sound_of, out_of}
 use Rattle.run_model.proofs.UsesFacts.{uses_named, uses_body, uses_drawn, uses_none, uses_ended, uses_root}
 use Rattle.run_model.proofs.BlocksParts.{Core, core_fit, core_has, Newly, newly, core_fewer, core_none, core_placed, core_block, supers_length}
 use Rattle.run_model.proofs.BlocksInvariant.{class_of_call, BlocksStand}

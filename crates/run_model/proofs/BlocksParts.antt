@@ -2,8 +2,8 @@
 use Rattle.std.proofs.Common.{◌≡◌, ◌≢◌, ◌⊎◌, ℕ, zero, suc, ◌+◌, ◌*◌, ◌/◌, ◌<◌, ◌≤◌, ◌^◌, Bool, true, false, cond, nat_eq, Option, Some, None, List, [], ◌∷◌, ◌++◌, length, slice_get, refl, sym, ◌∙◌, ap, subst, inl, inr, ⊎_elim, arith}
 use Rattle.std.specs.List.{list_any}
 use Rattle.std.proofs.lemmas.Bool.{cases_eq, false≢true}
-use Rattle.std.proofs.lemmas.Option.{none-some, same_Some, slice_get_within}
-use Rattle.task_syntax.specs.Places.{AllDiffer, Each}
+use Rattle.std.proofs.lemmas.Option.{none-some, same_Some}
+use Rattle.task_syntax.specs.Places.{AllDiffer}
 use Rattle.claim_core.specs.Claims.{set_count}
 use Rattle.claim_core.proofs.Counted.{le-set_count}
 use Rattle.kt_words.specs.Ranges.{IsUnitCount}
@@ -18,9 +18,9 @@ use Rattle.pool_core.proofs.Units.{capacity_fills, place_of_unit}
 use Rattle.record_core.specs.Numbers.{by_number, put_number, flat, found}
 use Rattle.run_model.specs.State.{Body, RootWord, Super}
 use Rattle.run_model.specs.Placing.{is_in_use, used_from, stands_in, stands_at, count_in, set_in, superblock_of, super_with, supers_with}
-use Rattle.run_model.proofs.ByNumber.{put_same, put_other, length_put, found_old, found_other, found_new, found_within, snoc_other}
+use Rattle.run_model.proofs.ByNumber.{put_same, put_other, length_put, found_other, found_new}
 use Rattle.run_model.proofs.UsedFacts.{Uses, in_use, any_from}
-use Rattle.run_model.proofs.UsedSound.{IsPlaced, SuperFits, BlocksFit, pool_with, superblock_at, set_in_at, counted, stands_here, stands_bit, classes_of, is_bit}
+use Rattle.run_model.proofs.UsedSound.{IsPlaced, SuperFits, BlocksFit, pool_with, superblock_at, set_in_at, counted, stands_here, classes_of}
 
 -- the blocks in use, as a list
 used_member : (roots : List RootWord) (bodies : List (Option Body)) (t : ℕ) (blocks : List (Option BlockState)) (i : ℕ) (b : BlockState) → slice_get (used_from roots bodies t blocks) i ≡ Some b

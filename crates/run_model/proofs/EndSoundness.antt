@@ -1,8 +1,6 @@
 -- The end of a run is sound, once its values are shown to be the meaning's.
-use Rattle.std.proofs.Common.{◌≡◌, ℕ, zero, suc, ◌+◌, ◌<◌, ◌≤◌, Option, Some, None, List, [], ◌∷◌, length, map, slice_get, refl, sym, ◌∙◌, ap, subst, arith}
-use Rattle.std.specs.Prelude.{IsSome}
-use Rattle.std.specs.Option.{is_some}
-use Rattle.std.proofs.lemmas.Option.{none-some, same_Some, slice_get_within}
+use Rattle.std.proofs.Common.{◌≡◌, ℕ, zero, suc, ◌≤◌, Option, Some, None, List, [], ◌∷◌, length, map, slice_get, refl, sym, ◌∙◌, ap, subst, arith}
+use Rattle.std.proofs.lemmas.Option.{none-some, same_Some}
 use Rattle.task_syntax.specs.Places.{Each, EachAt}
 use Rattle.task_syntax.specs.Form.{IsWellFormed}
 use Rattle.task_syntax.specs.declared.value.Value.{Value as ValueOf}
@@ -20,7 +18,7 @@ use Rattle.pool_core.specs.Blocks.{BlockState}
 use Rattle.record_core.specs.Sums.{total}
 use Rattle.record_core.specs.Numbers.{by_number, found}
 use Rattle.record_core.specs.Journal.{task_count}
-use Rattle.record_core.specs.EndSeen.{EndSeen, RunPlan}
+use Rattle.record_core.specs.EndSeen.{RunPlan}
 use Rattle.record_core.specs.EndSound.{kind_class, own_of_class, evidence_count, HasEvidence, IsRootSound, EndSound}
 use Rattle.record_core.specs.declared.rows.RootEnd.{RootEnd}
 use Rattle.record_core.specs.declared.rows.RootEnd.TheVariants.{Value, Cut}
@@ -33,7 +31,7 @@ use Rattle.run_model.proofs.ByNumber.{has_some}
 use Rattle.run_model.proofs.Reached.{always}
 use Rattle.run_model.proofs.RunStands.{RunStands, run_first, run_root, run_move}
 use Rattle.run_model.proofs.AllFinish.{no_bodies}
-use Rattle.run_model.proofs.BlocksInvariant.{EvidenceHolds, EvidenceStands}
+use Rattle.run_model.proofs.BlocksInvariant.{EvidenceStands}
 use Rattle.run_model.proofs.BlocksKept.{BlocksHeld, blocks_first, blocks_root, blocks_move}
 use Rattle.run_model.proofs.EvidenceKept.{evidence_first, evidence_root, evidence_move}
 use Rattle.run_model.proofs.HeldAtEnd.{held_at_end}
@@ -84,15 +82,15 @@ module _ (p : Program) (c : Columns) (plan : RunPlan) (geometry : IsGeometry pla
       let roots = end_roots p c plan formed end run in
       held_at_end p class end.blocks end.bodies p.roots end.roots (no_bodies end stands.run.numbers stands.run.rank (end_quiet p c plan end run)) roots.few root_block (λ i j t e f. stands.run.numbers.names.once i j t e f)
 
-  held_by_class : (class : ℕ) → class ≤ 3 → slice_get (end_seen plan end).held class ≡ Some (own_of_class p class p.roots (own_tasks end))
+  pub held_by_class : (class : ℕ) → class ≤ 3 → slice_get (end_seen plan end).held class ≡ Some (own_of_class p class p.roots (own_tasks end))
   held_by_class zero fits = ap Some (held 0)
   held_by_class (suc zero) fits = ap Some (held 1)
   held_by_class (suc (suc zero)) fits = ap Some (held 2)
   held_by_class (suc (suc (suc zero))) fits = ap Some (held 3)
   held_by_class (suc (suc (suc (suc class)))) fits = absurd (omega arith)
 
-  evidence : 1 ≤ end.nulls → HasEvidence (end_seen plan end) plan.limit
-  evidence some = by end.evidence refl
+  pub evidence_left : 1 ≤ end.nulls → HasEvidence (end_seen plan end) plan.limit
+  evidence_left some = by end.evidence refl
     where
       by : (o : Option Evidence) → end.evidence ≡ o → HasEvidence (end_seen plan end) plan.limit
       by None e = absurd (omega (arith, some, stands.run.nulls.kept.1 e))
@@ -129,7 +127,7 @@ module _ (p : Program) (c : Columns) (plan : RunPlan) (geometry : IsGeometry pla
         held = held_by_class;
         nulls = order.nulls;
         nulls_once = order.nulls_once;
-        evidence = evidence;
+        evidence = evidence_left;
         superblocks = refl;
         units = refl;
         as_many = order.as_many;

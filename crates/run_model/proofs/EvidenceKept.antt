@@ -2,9 +2,8 @@
 use Rattle.std.proofs.Common.{◌≡◌, ◌≢◌, ◌⊎◌, ℕ, zero, suc, ◌+◌, ◌<◌, ◌≤◌, Bool, true, false, cond, nat_eq, Option, Some, None, List, [], ◌∷◌, ◌++◌, length, map, slice_get, refl, sym, ◌∙◌, ap, subst, inl, inr, ⊎_elim, arith}
 use Rattle.std.specs.Prelude.{IsSome}
 use Rattle.std.specs.Option.{is_some}
-use Rattle.std.proofs.lemmas.Bool.{false≢true, eqb-true, ne_eqb}
+use Rattle.std.proofs.lemmas.Bool.{eqb-true, ne_eqb}
 use Rattle.std.proofs.lemmas.Option.{none-some, same_Some}
-use Rattle.task_syntax.specs.Places.{Each}
 use Rattle.task_syntax.specs.declared.value.Priority.{Priority}
 use Rattle.task_syntax.specs.declared.program.Root.{Root as RootLine}
 use Rattle.task_syntax.specs.declared.program.Program.{Program}
@@ -25,11 +24,11 @@ use Rattle.record_core.specs.EndSound.{kind_class, evidence_count}
 use Rattle.record_core.specs.declared.rows.ActivationRow.{ActivationRow}
 use Rattle.record_core.specs.declared.rows.CutTag.{CutTag}
 use Rattle.run_model.specs.State.{Body, Outcome, RootWord, Named, Super, Evidence, Run}
-use Rattle.run_model.specs.Placing.{pool_of, placed, is_in_use, used_from, stands_in, count_in, superblocks_from, superblock_of, word_of, words_of}
+use Rattle.run_model.specs.Placing.{pool_of, placed, is_in_use, used_from, stands_in, count_in, superblocks_from, word_of, words_of}
 use Rattle.run_model.specs.Step.{arrives, waits_or_queues, accepts, draws, with_body, with_root, root_request, evidence_or, at_first}
-use Rattle.run_model.specs.Move.{Notes, with_notes, Renews, Refuses, RefusesRoot, begins, Move, RootMove}
-use Rattle.run_model.proofs.UsedSound.{superblocks_length, superblock_at}
-use Rattle.run_model.proofs.BlocksKept.{BlocksHeld, Owned, held_sound, held_full, class_fits, request_fits}
+use Rattle.run_model.specs.Move.{Notes, with_notes, Renews, Refuses, RefusesRoot, Move, RootMove}
+use Rattle.run_model.proofs.UsedSound.{superblocks_length}
+use Rattle.run_model.proofs.BlocksKept.{BlocksHeld, held_sound, held_full, class_fits, request_fits}
 use Rattle.run_model.proofs.BlocksInvariant.{EvidenceHolds, EvidenceStands}
 use Rattle.run_model.proofs.Reached.{IsNextRoot}
 

@@ -46,6 +46,7 @@ use Rattle.run_model.proofs.FramesParts.{renewed_run, stand_noted, stand_root, s
 use Rattle.run_model.proofs.Reached.{IsNextRoot, IsKept, always}
 use Rattle.run_model.proofs.NumbersKept.{numbers_first, numbers_root, numbers_move}
 
+-- before the first root no task has a body
 pub frames_first : (p : Program) (plan : RunPlan) → FramesStand p (at_first plan)
 frames_first p plan = record {
   seated = λ t n row q live has. absurd (no_body t (OfKind q) has);
@@ -69,10 +70,12 @@ starts_once row some = by row.start some
     by None some = absurd (false≢true some)
     by (Some s) some = refl
 
-noted : (r : Run) (notes : Notes) → NumbersStand r → NumbersStand (with_notes r notes)
+-- what a refusal notes is not read here
+pub noted : (r : Run) (notes : Notes) → NumbersStand r → NumbersStand (with_notes r notes)
 noted r notes now = record { beside = now.beside; of_tasks = now.of_tasks; numbers = now.numbers; live = now.live; names = now.names }
 
-runs_noted : (r : Run) (notes : Notes) (t n : ℕ) (body : Body) → RunsAt r t n body → RunsAt (with_notes r notes) t n body
+-- nor of the running task
+pub runs_noted : (r : Run) (notes : Notes) (t n : ℕ) (body : Body) → RunsAt r t n body → RunsAt (with_notes r notes) t n body
 runs_noted r notes t n body runs = record { row = runs.row; running = runs.running; there = runs.there; of_task = runs.of_task; has = runs.has }
 
 module _ (p : Program) (r : Run) (held : NumbersStand r) (now : TasksStand p r) where
@@ -82,7 +85,7 @@ module _ (p : Program) (r : Run) (held : NumbersStand r) (now : TasksStand p r) 
 
   module _ (t n : ℕ) (body : Body) (runs : RunsAt r t n body) where
     -- what stands of the task that runs
-    running_stands : BodyStands p r t runs.row.after true body
+    pub running_stands : BodyStands p r t runs.row.after true body
     running_stands =
         let (row, there, some) = held.live.runs n runs.running in
         let begun : has_started runs.row ≡ true = starts_once runs.row (subst (λ (x : ActivationRow). IsSome x.start) (same_row r.journal.rows n row runs.row there runs.there) some) in
@@ -99,7 +102,7 @@ module _ (p : Program) (r : Run) (held : NumbersStand r) (now : TasksStand p r) 
             now.runs_behind n u runs.row runs.running runs.there (behind ∙ ap (slice_get members) is_at ∙ e)
 
     -- an aggregate that ends with a value
-    all_given : (c : Columns) (w : Value) → Answers p c r body w → (at u : ℕ) (members : List ℕ) → by_number r.calls t ≡ Some (OfAll members) → slice_get members at ≡ Some u → IsGiven r u
+    pub all_given : (c : Columns) (w : Value) → Answers p c r body w → (at u : ℕ) (members : List ℕ) → by_number r.calls t ≡ Some (OfAll members) → slice_get members at ≡ Some u → IsGiven r u
     all_given c w answers at u members call e = by body w answers running_stands
       where
         framed : (q : FrameOf ℕ) → IsFramed p r t runs.row.after true q → IsGiven r u
@@ -116,6 +119,7 @@ module _ (p : Program) (r : Run) (held : NumbersStand r) (now : TasksStand p r) 
             member_given others next g at u (omega (arith, past, lt)) there
 
 module _ (p : Program) (formed : IsWellFormed p) (valid : IsValid p) (units : ℕ) where
+  -- asking for a root keeps what stands of each task
   root_stands : (r s : Run) (root : RootLine) → IsNextRoot p r root → NumbersStand r → TasksStand p r → RootMove p units r root s → TasksStand p s
   root_stands r _ root next held now (RootMove.named block free placed some) =
       stand_arrives p (with_root (accepts units r request block) (Named (next_number r.journal))) (next_number r.journal) request.after
@@ -130,6 +134,7 @@ module _ (p : Program) (formed : IsWellFormed p) (valid : IsValid p) (units : �
   root_stands r _ root next held now (RootMove.refused tag notes free how) = stand_root p (with_notes r notes) (Refused tag) (stand_noted p r notes now)
   root_stands r _ root next held now (RootMove.skipped first e) = stand_root p r (Skipped first.0 first.1) now
 
+  -- and so the invariant
   pub frames_root : (r s : Run) (root : RootLine) → IsNextRoot p r root → NumbersStand r → NumbersStand s → FramesStand p r → RootMove p units r root s → FramesStand p s
   frames_root r s root next held held_s now move = frames_of p s held_s (root_stands r s root next held (tasks_of p r now) move)
 
@@ -206,6 +211,7 @@ module _ (p : Program) (formed : IsWellFormed p) (valid : IsValid p) (c : Column
           given = λ at v lt f. given_grows r _ v grows (member_given p r held now t n (OfMembers members next) runs members next was at v (omega (arith, lt)) f);
         }
 
+  -- a move keeps what stands of each task
   move_stands : (r s : Run) → NumbersStand r → TasksStand p r → Move p c units r s → TasksStand p s
   move_stands r _ held now (Move.goes_on t n q next runs goes) =
       stand_body p r t (OfKind q) (OfKind next) runs.has now
@@ -248,6 +254,7 @@ module _ (p : Program) (formed : IsWellFormed p) (valid : IsValid p) (c : Column
       cut_gave : (tag : CutTag) (v : Value) → WasCut tag ≡ Gave v → ⊥
       cut_gave tag v e = cc
 
+  -- and so the invariant
   pub frames_move : (r s : Run) → NumbersStand r → NumbersStand s → FramesStand p r → Move p c units r s → FramesStand p s
   frames_move r s held held_s now move = frames_of p s held_s (move_stands r s held (tasks_of p r now) move)
 

@@ -1,16 +1,12 @@
 -- Where a run is over, the blocks in use are those of the roots.
-use Rattle.std.proofs.Common.{◌≡◌, ◌≢◌, ◌⊎◌, ℕ, zero, suc, ◌+◌, ◌<◌, ◌≤◌, Bool, true, false, cond, nat_eq, ◌||◌, Option, Some, None, List, [], ◌∷◌, length, map, slice_get, refl, sym, ◌∙◌, ap, subst, inl, inr, ⊎_elim, arith, eq-eqb}
-use Rattle.std.specs.Prelude.{IsSome}
+use Rattle.std.proofs.Common.{◌≡◌, ℕ, zero, suc, ◌+◌, ◌<◌, ◌≤◌, Bool, true, false, cond, nat_eq, ◌||◌, Option, Some, None, List, [], ◌∷◌, length, map, slice_get, refl, sym, ◌∙◌, ap, arith, eq-eqb}
 use Rattle.std.specs.List.{list_any}
-use Rattle.std.specs.Option.{is_some}
-use Rattle.std.proofs.lemmas.Bool.{cases_eq, false≢true, eqb-true, ne_eqb}
+use Rattle.std.proofs.lemmas.Bool.{false≢true, ne_eqb}
 use Rattle.std.proofs.lemmas.Option.{none-some, same_Some}
 use Rattle.task_syntax.specs.declared.program.Root.{Root as RootLine}
 use Rattle.task_syntax.specs.declared.program.Program.{Program}
-use Rattle.task_meaning.specs.Meant.{future_at}
 use Rattle.pool_core.specs.Blocks.{BlockState}
-use Rattle.record_core.specs.Sums.{total}
-use Rattle.record_core.specs.Numbers.{by_number, flat, found}
+use Rattle.record_core.specs.Numbers.{flat, found}
 use Rattle.record_core.specs.EndSound.{kind_class, own_of_class}
 use Rattle.run_model.specs.State.{Body, RootWord, Named, Refused, Skipped}
 use Rattle.run_model.specs.Step.{own_task}

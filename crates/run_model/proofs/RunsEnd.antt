@@ -1,6 +1,5 @@
 -- A run of a valid program is over after so many steps: each step takes away from the lines and activations that are left.
-use Rattle.std.proofs.Common.{◌≡◌, ◌⊎◌, ℕ, zero, suc, ◌+◌, ◌-◌, ◌*◌, ◌<◌, ◌≤◌, Bool, true, false, cond, Option, Some, None, List, [], ◌∷◌, ◌++◌, length, slice_get, refl, sym, ◌∙◌, ap, subst, inl, inr, ⊎_elim, arith}
-use Rattle.std.specs.Prelude.{IsSome, slice_set}
+use Rattle.std.proofs.Common.{◌≡◌, ◌⊎◌, ℕ, zero, suc, ◌+◌, ◌-◌, ◌*◌, ◌<◌, ◌≤◌, true, false, cond, Option, Some, None, List, [], ◌∷◌, ◌++◌, length, slice_get, refl, sym, ◌∙◌, ap, subst, inl, inr, ⊎_elim, arith}
 use Rattle.std.specs.Option.{is_some}
 use Rattle.std.proofs.lemmas.Bool.{false≢true}
 use Rattle.std.proofs.lemmas.Option.{none-some, same_Some}
@@ -10,24 +9,22 @@ use Rattle.task_syntax.specs.declared.value.Value.{Value}
 use Rattle.task_syntax.specs.declared.program.Program.{Program}
 use Rattle.task_syntax.specs.declared.columns.Columns.{Columns}
 use Rattle.task_meaning.specs.Meant.{future_at}
-use Rattle.task_meaning.specs.Frame.{FrameOf, code_at, set_future}
-use Rattle.task_meaning.specs.Acts.{Steps, Reads, ActsAt, act_of}
+use Rattle.task_meaning.specs.Frame.{FrameOf, set_future}
+use Rattle.task_meaning.specs.Acts.{Reads, ActsAt}
 use Rattle.task_meaning.specs.Worths.{Respawn}
 use Rattle.task_meaning.proofs.Ahead.{StepsAhead, act-ahead, jumps_ahead}
 use Rattle.frame_code.specs.Words.{OfKind, OfMembers}
-use Rattle.record_core.specs.Sums.{total}
-use Rattle.record_core.specs.Numbers.{by_number, put_number, found}
+use Rattle.record_core.specs.Numbers.{by_number, found}
 use Rattle.record_core.specs.Journal.{next_number, started_rows, starts}
 use Rattle.record_core.specs.EndSeen.{RunPlan}
 use Rattle.record_core.specs.declared.rows.ActivationRow.{ActivationRow}
 use Rattle.record_core.proofs.TotalFacts.{total-snoc, total-set, total-bounded}
 use Rattle.run_model.specs.State.{Body, Outcome, Gave, Queues, Run, next_queued}
-use Rattle.run_model.specs.Step.{Request, arrives, waits_or_queues, outcome_of, accepts, draws, with_body, step, steps, asked}
-use Rattle.run_model.specs.Move.{with_notes, RunsAt, Goes, Still, StaysOrMoves, begins, Move}
+use Rattle.run_model.specs.Step.{arrives, waits_or_queues, outcome_of, accepts, draws, with_body, step, steps, asked}
+use Rattle.run_model.specs.Move.{with_notes, RunsAt, Goes, Still, begins, Move}
 use Rattle.run_model.specs.End.{OneThreadRun, state_at}
 use Rattle.run_model.proofs.StandsStill.{IsQuiet}
 use Rattle.run_model.proofs.ByNumber.{has_some, snoc_old, found_old, found_put, found_within}
-use Rattle.run_model.proofs.NumbersInvariant.{NumbersStand}
 use Rattle.run_model.proofs.NumbersParts.{next_row}
 use Rattle.run_model.proofs.RunsFacts.{running_number}
 use Rattle.run_model.proofs.Traversal.{step_moves}

@@ -1,18 +1,15 @@
 -- Which blocks are in use, said by who names a task, and the list of them.
-use Rattle.std.proofs.Common.{◌≡◌, ◌≢◌, ◌↔◌, ◌⊎◌, ℕ, zero, suc, ◌+◌, ◌<◌, ◌≤◌, Bool, true, false, cond, nat_eq, ◌||◌, Option, Some, None, List, [], ◌∷◌, ◌++◌, length, slice_get, refl, sym, ◌∙◌, ap, subst, inl, inr, ⊎_elim, arith, eq-eqb}
+use Rattle.std.proofs.Common.{◌≡◌, ◌↔◌, ◌⊎◌, ℕ, zero, suc, Bool, true, false, nat_eq, ◌||◌, Option, Some, None, List, [], ◌∷◌, slice_get, refl, sym, ◌∙◌, ap, inl, inr, ⊎_elim, eq-eqb}
 use Rattle.std.specs.Prelude.{IsSome, IsTrue}
 use Rattle.std.specs.List.{list_any}
-use Rattle.std.specs.Option.{is_some}
-use Rattle.std.proofs.lemmas.Bool.{cases_eq, false≢true, eqb-true}
+use Rattle.std.proofs.lemmas.Bool.{false≢true, eqb-true}
 use Rattle.std.proofs.lemmas.Option.{none-some, same_Some}
 use Rattle.task_syntax.specs.Facts.{has}
 use Rattle.task_meaning.specs.Meant.{future_at}
-use Rattle.task_meaning.specs.Frame.{FrameOf}
-use Rattle.pool_core.specs.Blocks.{BlockState}
 use Rattle.frame_code.specs.Words.{OfKind, OfMembers}
-use Rattle.record_core.specs.Numbers.{by_number, flat, found}
+use Rattle.record_core.specs.Numbers.{flat, found}
 use Rattle.run_model.specs.State.{Body, RootWord, Named, Refused, Skipped}
-use Rattle.run_model.specs.Placing.{is_task, body_names, task_names, root_names, is_open, is_in_use, used_from, stands_in, count_in}
+use Rattle.run_model.specs.Placing.{is_task, body_names, task_names, root_names, is_open, is_in_use}
 use Rattle.run_model.proofs.NumbersInvariant.{BodyNames}
 
 -- a test that some member passes

@@ -1,11 +1,11 @@
 -- Blocks that stand apart in superblocks of their class make a sound pool.
-use Rattle.std.proofs.Common.{◌≡◌, ◌≢◌, ◌⊎◌, ℕ, zero, suc, ◌+◌, ◌*◌, ◌/◌, ◌<◌, ◌≤◌, ◌^◌, Bool, true, false, cond, nat_eq, ◌&&◌, ◌||◌, Option, Some, None, List, [], ◌∷◌, length, slice_get, refl, sym, ◌∙◌, ap, subst, inl, inr, ⊎_elim, arith, eq-eqb}
+use Rattle.std.proofs.Common.{◌≡◌, ◌≢◌, ℕ, zero, suc, ◌+◌, ◌*◌, ◌/◌, ◌<◌, ◌≤◌, ◌^◌, Bool, true, false, cond, nat_eq, ◌&&◌, ◌||◌, Some, List, [], ◌∷◌, length, slice_get, refl, sym, ◌∙◌, ap, subst, ⊎_elim, arith, eq-eqb}
 use Rattle.std.specs.List.{list_any}
-use Rattle.std.proofs.lemmas.Bool.{cases_eq, false≢true, eqb-true, ne_eqb, and_parts, and_from}
+use Rattle.std.proofs.lemmas.Bool.{cases_eq, eqb-true, and_parts, and_from}
 use Rattle.std.proofs.lemmas.Option.{none-some, same_Some, slice_get_within}
 use Rattle.task_syntax.specs.Places.{AllDiffer, Each}
 use Rattle.claim_core.specs.Claims.{set_count, IsSet}
-use Rattle.claim_core.proofs.Counted.{set_count-cons, le-set_count}
+use Rattle.claim_core.proofs.Counted.{set_count-cons}
 use Rattle.kt_words.specs.Ranges.{IsUnitCount}
 use Rattle.kt_words.specs.Capacity.{block_units, capacity}
 use Rattle.pool_core.specs.Blocks.{BlockState, block_at}

@@ -1,12 +1,11 @@
 -- Who is still in use after each part of a move: no more than before, but for the new task.
-use Rattle.std.proofs.Common.{◌≡◌, ◌≢◌, ◌⊎◌, ℕ, zero, suc, ◌+◌, ◌<◌, ◌≤◌, Option, Some, None, List, [], ◌∷◌, ◌++◌, length, slice_get, refl, sym, ◌∙◌, ap, subst, inl, inr, ⊎_elim, arith}
-use Rattle.std.specs.Prelude.{IsSome}
+use Rattle.std.proofs.Common.{◌≡◌, ◌≢◌, ℕ, suc, ◌≤◌, Option, Some, None, List, [], ◌∷◌, ◌++◌, length, refl, sym, ◌∙◌, ap, subst, inl, inr, ⊎_elim}
 use Rattle.std.specs.Option.{is_some}
 use Rattle.std.proofs.lemmas.Bool.{cases_eq, false≢true}
 use Rattle.std.proofs.lemmas.Option.{none-some, same_Some}
 use Rattle.record_core.specs.Numbers.{put_number, flat, found}
 use Rattle.run_model.specs.State.{Body, RootWord, Named}
-use Rattle.run_model.proofs.ByNumber.{found_new, found_other, found_put, found_put_other, found_within, has_some}
+use Rattle.run_model.proofs.ByNumber.{found_new, found_other, found_put, found_put_other, found_within}
 use Rattle.run_model.proofs.NumbersInvariant.{BodyNames}
 use Rattle.run_model.proofs.LiveFacts.{read_snoc}
 use Rattle.run_model.proofs.NumbersParts.{slice_snoc}

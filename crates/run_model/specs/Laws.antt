@@ -1,7 +1,8 @@
 -- The laws of the run on one thread.
-use Rattle.std.specs.Prelude.{◌≡◌, ℕ, ◌+◌, ◌<◌, ◌≤◌, Some, None, IsSome, MatchOption, length, slice_get}
+use Rattle.std.specs.Prelude.{◌≡◌, ℕ, ◌+◌, ◌*◌, ◌<◌, ◌≤◌, Some, None, IsSome, MatchOption, length, slice_get}
 use Rattle.task_syntax.specs.Places.{Each, EachAt}
 use Rattle.task_syntax.specs.Form.{IsWellFormed}
+use Rattle.task_syntax.specs.Valid.{IsValid}
 use Rattle.task_syntax.specs.declared.program.Program.{Program}
 use Rattle.task_syntax.specs.declared.columns.Columns.{Columns}
 use Rattle.kt_words.specs.Ranges.{IsGeometry}
@@ -13,7 +14,7 @@ use Rattle.record_core.specs.Numbers.{by_number, found, HasTask}
 use Rattle.record_core.specs.Journal.{AreOfTasks, AreStampedOnce, AreInOrder, CausesLead, Leads, task_count, finish_of, cause_of}
 use Rattle.record_core.specs.JournalLaws.{GrowsFrom}
 use Rattle.record_core.specs.EndSeen.{EndSeen, RunPlan}
-use Rattle.record_core.specs.EndSound.{HasNoRetry, AreOwn, IsCutAsNamed, null_ends}
+use Rattle.record_core.specs.EndSound.{HasNoRetry, HasEvidence, AreOwn, IsCutAsNamed, null_ends, own_of_class}
 use Rattle.record_core.specs.EndFaithful.{EndFaithful}
 use Rattle.record_core.specs.declared.rows.ActivationRow.{ActivationRow}
 use Rattle.record_core.specs.declared.rows.Cause.TheVariants as cause
@@ -99,3 +100,16 @@ pub record BlocksAreApart : Type 0 where
   pub given : (p : Program) (c : Columns) (plan : RunPlan) (taken u n unit : ℕ) (one other : BlockState) → IsGeometry plan.superblocks plan.units → IsReferred (state_at p c plan taken) u
       → found (state_at p c plan taken).blocks u ≡ Some one → found (state_at p c plan taken).blocks n ≡ None → found (step p c plan.units (state_at p c plan taken)).blocks n ≡ Some other
       → HasUnit one unit → HasUnit other unit → ⊥
+
+-- a run of a valid program is over after at most 66 steps for each activation of its plan
+abbrev pub RunsEnd : Type 0
+RunsEnd = (p : Program) (c : Columns) (plan : RunPlan) → IsWellFormed p → IsValid p → (end : Run) × (run : OneThreadRun p c plan end) × (run.taken ≤ 66 * plan.limit)
+
+-- at the end the only blocks held are those of roots, by the classes of their kinds
+abbrev pub EndsHoldRoots : Type 0
+EndsHoldRoots = (p : Program) (c : Columns) (plan : RunPlan) (end : Run) (class : ℕ) → IsWellFormed p → IsGeometry plan.superblocks plan.units → OneThreadRun p c plan end → class ≤ 3
+    → slice_get (end_seen plan end).held class ≡ Some (own_of_class p class p.roots (end_seen plan end).own)
+
+-- a null answer left its evidence
+abbrev pub EndsHaveEvidence : Type 0
+EndsHaveEvidence = (p : Program) (c : Columns) (plan : RunPlan) (end : Run) → IsWellFormed p → IsGeometry plan.superblocks plan.units → OneThreadRun p c plan end → 1 ≤ end.nulls → HasEvidence (end_seen plan end) plan.limit

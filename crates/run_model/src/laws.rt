@@ -1,4 +1,4 @@
-ghost use Rattle.run_model.specs.Laws.{BlocksAreApart, EndsAreFaithful, EndsAreInOrder, EndsSkipAsNamed, OneEnd, PlacesAsPoolsGive, PoolsAreSound, StartsOnce};
+ghost use Rattle.run_model.specs.Laws.{BlocksAreApart, EndsAreFaithful, EndsAreInOrder, EndsHaveEvidence, EndsHoldRoots, EndsSkipAsNamed, OneEnd, PlacesAsPoolsGive, PoolsAreSound, RunsEnd, StartsOnce};
 ghost use Rattle.run_model.specs.Move.{RootsMove, StepsMove};
 ghost use Rattle.run_model.specs.RuleRuns.{RuleRuns};
 ghost use Rattle.run_model.specs.ExampleRuns.{ExampleRuns};
@@ -8,7 +8,8 @@ pub fn one_end()
     ensures { OneEnd }
 {}
 
-/// A block is placed where a pool of `pool_core` gives it, and none is placed exactly where that pool has no room.
+/// A block is placed where a pool of `pool_core` gives it, and none is placed exactly where that
+/// pool has no room.
 pub fn places_as_pools_give()
     ensures { PlacesAsPoolsGive }
 {}
@@ -23,7 +24,8 @@ pub fn worked_runs()
     ensures { ExampleRuns }
 {}
 
-/// A step changes nothing, for a reason, or makes one of seven moves; asking for a root makes one of three.
+/// A step changes nothing, for a reason, or makes one of seven moves; asking for a root makes one
+/// of three.
 pub fn steps_are_moves()
     ensures step { StepsMove }
     ensures root { RootsMove }
@@ -34,7 +36,8 @@ pub fn starts_once()
     ensures { StartsOnce }
 {}
 
-/// The end of a run is in order: all has started and finished, stamped once, and each cut has its cause.
+/// The end of a run is in order: all has started and finished, stamped once, and each cut has its
+/// cause.
 pub fn ends_are_in_order()
     ensures { EndsAreInOrder }
 {}
@@ -53,4 +56,15 @@ pub fn pools_are_sound()
 /// No block is given that shares a unit with the block of a task to which something refers.
 pub fn blocks_are_apart()
     ensures { BlocksAreApart }
+{}
+
+/// A run of a valid program is over after so many steps.
+pub fn runs_end()
+    ensures { RunsEnd }
+{}
+
+/// At the end only roots hold blocks, and a null answer has left its evidence.
+pub fn ends_show_the_pool()
+    ensures held { EndsHoldRoots }
+    ensures evidence { EndsHaveEvidence }
 {}

@@ -1,15 +1,18 @@
-//! The run of a program on one thread, as plain data: a state, one step, and its end. Nothing here runs; an engine shows
-//! that it ends as this run ends.
+//! The run of a program on one thread, as plain data: a state, one step, and its end. Nothing here
+//! runs; an engine shows that it ends as this run ends.
 //!
-//! `specs/State.antt` has the state, `specs/Placing.antt` says which blocks are in use and where the next one is placed,
-//! `specs/Step.antt` what one step does, `specs/Move.antt` which moves that may be, and `specs/End.antt` when the run is
-//! over and what it answers.
-//! The functions do nothing: the contract of each is a law of these definitions.
+//! `specs/State.antt` has the state, `specs/Placing.antt` says which blocks are in use and where
+//! the next one is placed, `specs/Step.antt` what one step does, `specs/Move.antt` which moves that
+//! may be, and `specs/End.antt` when the run is over and what it answers. `specs/RuleRuns.antt` and
+//! `specs/ExampleRuns.antt` have worked runs.
+//! The functions do nothing: the contract of each is a law of these definitions, in
+//! `specs/Laws.antt`.
 #![tactic(auto)]
 
 mod laws;
 
 pub use laws::{
-    ends_are_faithful, ends_are_in_order, one_end, places_as_pools_give, rules_by_example,
-    starts_once, steps_are_moves, worked_runs,
+    blocks_are_apart, ends_are_faithful, ends_are_in_order, ends_show_the_pool, one_end,
+    places_as_pools_give, pools_are_sound, rules_by_example, runs_end, starts_once,
+    steps_are_moves, worked_runs,
 };
