@@ -57,3 +57,4 @@ pub mod EndSoundness
 pub mod RunsEnd
 pub mod ValuesParts
 pub mod ValuesKept
+pub mod RootValues

@@ -14,7 +14,7 @@ use Rattle.record_core.specs.Numbers.{by_number, found, HasTask}
 use Rattle.record_core.specs.Journal.{AreOfTasks, AreStampedOnce, AreInOrder, CausesLead, Leads, task_count, finish_of, cause_of}
 use Rattle.record_core.specs.JournalLaws.{GrowsFrom}
 use Rattle.record_core.specs.EndSeen.{EndSeen, RunPlan}
-use Rattle.record_core.specs.EndSound.{HasNoRetry, HasEvidence, AreOwn, IsCutAsNamed, null_ends, own_of_class}
+use Rattle.record_core.specs.EndSound.{EndSound, HasNoRetry, HasEvidence, AreOwn, IsCutAsNamed, null_ends, own_of_class}
 use Rattle.record_core.specs.EndFaithful.{EndFaithful}
 use Rattle.record_core.specs.declared.rows.ActivationRow.{ActivationRow}
 use Rattle.record_core.specs.declared.rows.Cause.TheVariants as cause
@@ -113,3 +113,7 @@ EndsHoldRoots = (p : Program) (c : Columns) (plan : RunPlan) (end : Run) (class 
 -- a null answer left its evidence
 abbrev pub EndsHaveEvidence : Type 0
 EndsHaveEvidence = (p : Program) (c : Columns) (plan : RunPlan) (end : Run) → IsWellFormed p → IsGeometry plan.superblocks plan.units → OneThreadRun p c plan end → 1 ≤ end.nulls → HasEvidence (end_seen plan end) plan.limit
+
+-- the end of a run of a valid program is sound: all of this, and each value that a root shows is the meaning's
+abbrev pub EndsAreSound : Type 0
+EndsAreSound = (p : Program) (c : Columns) (plan : RunPlan) (end : Run) → IsWellFormed p → IsValid p → IsGeometry plan.superblocks plan.units → OneThreadRun p c plan end → EndSound p c plan (end_seen plan end)

@@ -1,4 +1,4 @@
-ghost use Rattle.run_model.specs.Laws.{BlocksAreApart, EndsAreFaithful, EndsAreInOrder, EndsHaveEvidence, EndsHoldRoots, EndsSkipAsNamed, OneEnd, PlacesAsPoolsGive, PoolsAreSound, RunsEnd, StartsOnce};
+ghost use Rattle.run_model.specs.Laws.{BlocksAreApart, EndsAreFaithful, EndsAreInOrder, EndsAreSound, EndsHaveEvidence, EndsHoldRoots, EndsSkipAsNamed, OneEnd, PlacesAsPoolsGive, PoolsAreSound, RunsEnd, StartsOnce};
 ghost use Rattle.run_model.specs.Move.{RootsMove, StepsMove};
 ghost use Rattle.run_model.specs.RuleRuns.{RuleRuns};
 ghost use Rattle.run_model.specs.ExampleRuns.{ExampleRuns};
@@ -67,4 +67,10 @@ pub fn runs_end()
 pub fn ends_show_the_pool()
     ensures held { EndsHoldRoots }
     ensures evidence { EndsHaveEvidence }
+{}
+
+/// The end of a run of a valid program is sound: each value that a root shows is the meaning's, and
+/// each cut has its cause.
+pub fn ends_are_sound()
+    ensures { EndsAreSound }
 {}
