@@ -1,0 +1,2 @@
+ktask 1
+spa
