@@ -102,7 +102,7 @@ tasks_put n k [] old new e same = absurd (none-some old e)
 tasks_put n zero (first ∷ rows) old new e same = ap (λ t. cond (nat_eq t n) 1 0 + tasks_from (suc n) rows) (same ∙ sym (ap (λ (x : ActivationRow). x.task) (same_Some first old e)))
 tasks_put n (suc k) (first ∷ rows) old new e same = ap (λ x. cond (nat_eq first.task n) 1 0 + x) (tasks_put (suc n) k rows old new e same)
 
-tasks_started : (rows : List ActivationRow) (n stamp : ℕ) → task_count (started_rows rows n stamp (by_number rows n)) ≡ task_count rows
+pub tasks_started : (rows : List ActivationRow) (n stamp : ℕ) → task_count (started_rows rows n stamp (by_number rows n)) ≡ task_count rows
 tasks_started rows n stamp = by n (by_number rows n) refl
   where
     by : (n : ℕ) (o : Option ActivationRow) → by_number rows n ≡ o → task_count (started_rows rows n stamp o) ≡ task_count rows

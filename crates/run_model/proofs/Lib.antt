@@ -58,3 +58,5 @@ pub mod RunsEnd
 pub mod ValuesParts
 pub mod ValuesKept
 pub mod RootValues
+pub mod CountsParts
+pub mod CountsKept

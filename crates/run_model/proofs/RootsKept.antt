@@ -49,7 +49,7 @@ future_snoc [] o i lt = absurd (omega arith)
 future_snoc (f ∷ own) o zero lt = refl
 future_snoc (f ∷ own) o (suc i) lt = future_snoc own o i (omega arith)
 
-future_last : (own : List (Option ℕ)) (o : Option ℕ) → future_at (own ++ o ∷ []) (length own) ≡ o
+pub future_last : (own : List (Option ℕ)) (o : Option ℕ) → future_at (own ++ o ∷ []) (length own) ≡ o
 future_last [] o = refl
 future_last (f ∷ own) o = future_last own o
 
@@ -58,11 +58,11 @@ future_within [] i t e = absurd (none-some t e)
 future_within (f ∷ own) zero t e = omega arith
 future_within (f ∷ own) (suc i) t e = let rest = future_within own i t e in omega arith
 
-own_snoc : (words : List RootWord) (word : RootWord) → map own_task (words ++ word ∷ []) ≡ map own_task words ++ own_task word ∷ []
+pub own_snoc : (words : List RootWord) (word : RootWord) → map own_task (words ++ word ∷ []) ≡ map own_task words ++ own_task word ∷ []
 own_snoc [] word = refl
 own_snoc (w ∷ words) word = ap (λ rest. own_task w ∷ rest) (own_snoc words word)
 
-own_length : (words : List RootWord) → length (map own_task words) ≡ length words
+pub own_length : (words : List RootWord) → length (map own_task words) ≡ length words
 own_length [] = refl
 own_length (w ∷ words) = ap suc (own_length words)
 
@@ -146,13 +146,13 @@ argument_named (root_argument.Root r ∷ more) (suc at) k e = let (i, f) = argum
 
 -- the same call where one more root has a task
 module _ (own : List (Option ℕ)) (o : Option ℕ) where
-  futures_snoc : (arguments : List RootArgument) → Each arguments (IsFormedRootArgument (length own)) → map (root_future (own ++ o ∷ [])) arguments ≡ map (root_future own) arguments
+  pub futures_snoc : (arguments : List RootArgument) → Each arguments (IsFormedRootArgument (length own)) → map (root_future (own ++ o ∷ [])) arguments ≡ map (root_future own) arguments
   futures_snoc [] formed = refl
   futures_snoc (root_argument.Number n ∷ more) formed = ap (λ rest. None ∷ rest) (futures_snoc more (λ at a e. formed (suc at) a e))
   futures_snoc (root_argument.Root r ∷ more) formed =
       ap (λ f. f ∷ map (root_future (own ++ o ∷ [])) more) (future_snoc own o r (formed 0 (root_argument.Root r) refl)) ∙ ap (λ rest. future_at own r ∷ rest) (futures_snoc more (λ at a e. formed (suc at) a e))
 
-  waits_snoc : (behind : Option ℕ) → IfSome behind (λ earlier. earlier < length own) → root_waits (own ++ o ∷ []) behind ≡ root_waits own behind
+  pub waits_snoc : (behind : Option ℕ) → IfSome behind (λ earlier. earlier < length own) → root_waits (own ++ o ∷ []) behind ≡ root_waits own behind
   waits_snoc None formed = refl
   waits_snoc (Some r) formed = future_snoc own o r formed
 
@@ -164,11 +164,11 @@ module _ (own : List (Option ℕ)) (o : Option ℕ) where
   names_snoc (root_argument.Root r) named = has_snoc r named
 
 -- a fact on a call is one on the same call
-call_same : (own own' : List (Option ℕ)) (root : RootLine) → map (root_future own') root.arguments ≡ map (root_future own) root.arguments → root_call own' root ≡ root_call own root
+pub call_same : (own own' : List (Option ℕ)) (root : RootLine) → map (root_future own') root.arguments ≡ map (root_future own) root.arguments → root_call own' root ≡ root_call own root
 call_same own own' root e = ap (λ futures. record { kind = root.kind; numbers = map Rattle.task_meaning.specs.Roots.root_number root.arguments; futures = futures }) e
 
 -- a formed argument stays formed under a higher bound
-formed_up : (n m : ℕ) (arguments : List RootArgument) → n ≤ m → Each arguments (IsFormedRootArgument n) → Each arguments (IsFormedRootArgument m)
+pub formed_up : (n m : ℕ) (arguments : List RootArgument) → n ≤ m → Each arguments (IsFormedRootArgument n) → Each arguments (IsFormedRootArgument m)
 formed_up n m arguments le formed at (root_argument.Number x) e = formed at (root_argument.Number x) e
 formed_up n m arguments le formed at (root_argument.Root r) e = let lt : r < n = formed at (root_argument.Root r) e in omega (arith, lt, le)
 

@@ -109,7 +109,7 @@ module _ (p : Program) (formed : IsWellFormed p) (valid : IsValid p) (c : Column
   -- what is waited for at a line of a seated frame names a task
   module _ (r : Run) (after : Option ℕ) (q : FrameOf ℕ) (seat : IsSeated p r after true q) where
     -- a variable that is held names a task
-    waited_names : (waits : Option ℕ) → IfSome waits (Held seat.state q.at) → NamesTask q waits
+    pub waited_names : (waits : Option ℕ) → IfSome waits (Held seat.state q.at) → NamesTask q waits
     waited_names None held = tt
     waited_names (Some g) held = has_some (future_at q.futures g) (seat.held g (held seat.facts seat.way))
 
@@ -127,7 +127,7 @@ module _ (p : Program) (formed : IsWellFormed p) (valid : IsValid p) (c : Column
 
     module _ (line : Line) (there : slice_get (code_at p q.kind q.state) q.at ≡ Some line) where
       -- so does what a spawn is behind
-      spawn_names : (to : ℕ) (call : CallOf ℕ) (waits : Option ℕ) → act_of c line.instr q ≡ Calls to call waits → NamesTask q waits
+      pub spawn_names : (to : ℕ) (call : CallOf ℕ) (waits : Option ℕ) → act_of c line.instr q ≡ Calls to call waits → NamesTask q waits
       spawn_names to call waits e =
           let (kind, arguments, priority, retry, is_spawn, is_call) = shape_of c line.instr q (Calls to call waits) e in
           let is_formed = subst (λ instr. IsFormedInstr p seat.kind seat.state q.at instr) is_spawn (seat_formed p formed valid c r after true q seat line there) in
@@ -136,7 +136,7 @@ module _ (p : Program) (formed : IsWellFormed p) (valid : IsValid p) (c : Column
           waited_names waits (is_sound callee is_callee).behind_held
 
       -- and what a respawn is behind
-      again_names : (target : ℕ) (waits : Option ℕ) → act_of c line.instr q ≡ Respawns target waits → NamesTask q waits
+      pub again_names : (target : ℕ) (waits : Option ℕ) → act_of c line.instr q ≡ Respawns target waits → NamesTask q waits
       again_names target waits e =
           let (priority, is_again) = shape_of c line.instr q (Respawns target waits) e in
           let is_formed = subst (λ instr. IsFormedInstr p seat.kind seat.state q.at instr) is_again (seat_formed p formed valid c r after true q seat line there) in
@@ -145,14 +145,14 @@ module _ (p : Program) (formed : IsWellFormed p) (valid : IsValid p) (c : Column
           waited_names waits (is_sound next is_next).behind_held
 
       -- the members of an aggregate name the tasks of its call
-      gather_names : (to : ℕ) (members : List ℕ) → act_of c line.instr q ≡ Gathers to members → map (future_at q.futures) members ≡ map Some (tasks_named q members)
+      pub gather_names : (to : ℕ) (members : List ℕ) → act_of c line.instr q ≡ Gathers to members → map (future_at q.futures) members ≡ map Some (tasks_named q members)
       gather_names to members e =
           let (priority, retry, is_all) = shape_of c line.instr q (Gathers to members) e in
           members_name members (subst (λ instr. IsSoundInstr p seat.kind seat.state q.at instr) is_all (seat_sound p formed valid c r after true q seat line there))
 
   module _ (r : Run) (held : NumbersStand r) (calls : CallsStand r) (tasks : TasksStand p r) (now : ValuesStand p c r) (t n : ℕ) where
     -- what the running activation is behind has a worth
-    has_waited : (body : Body) (runs : RunsAt r t n body) → HasWorth p c r.calls runs.row.after
+    pub has_waited : (body : Body) (runs : RunsAt r t n body) → HasWorth p c r.calls runs.row.after
     has_waited body runs = has_given p c r now runs.row.after (λ u after. tasks.runs_behind n u runs.row runs.running runs.there after)
 
     -- the value that the task gives is its worth
@@ -208,7 +208,7 @@ module _ (p : Program) (formed : IsWellFormed p) (valid : IsValid p) (c : Column
       new_number = ap suc held.beside.of_calls
 
       -- what is asked for names earlier tasks
-      asked_earlier : (request : Request) (to : ℕ) (retry : Bool) → Asks p c q request to retry → (u : ℕ) → CallNames request.call u → u ≤ length r.calls
+      pub asked_earlier : (request : Request) (to : ℕ) (retry : Bool) → Asks p c q request to retry → (u : ℕ) → CallNames request.call u → u ≤ length r.calls
       asked_earlier request to retry asks u named = task_named r held u (held.names.in_bodies t u (OfKind q) runs.has (asks_call_named p c q request to u retry asks named))
 
       -- a new task is worth what follows from its first frame
