@@ -77,10 +77,10 @@ one_less zero above = absurd (omega (arith, above))
 one_less (suc m) above = (m, refl)
 
 -- the row of a new task, and of a further activation
-abbrev new_row : Run → Option ℕ → ActivationRow
+abbrev pub new_row : Run → Option ℕ → ActivationRow
 new_row r after = record { task = next_number r.journal; after = after; start = None }
 
-abbrev further_row : ℕ → Option ℕ → ActivationRow
+abbrev pub further_row : ℕ → Option ℕ → ActivationRow
 further_row t after = record { task = t; after = after; start = None }
 
 -- one member is put in the place of another that counts as much
@@ -100,7 +100,7 @@ abbrev pub HasRoomLeft : Program → ℕ → Counts → Run → Type 0
 HasRoomLeft p units all r = (class : ℕ) → MayAsk p class → task_count r.journal.rows < all.tasks → placed (pool_of units r) class ≡ None → ⊥
 
 -- where a number waits is not read here
-counts_arrives : (p : Program) (c : Columns) (all : Counts) (r : Run) (n : ℕ) (after : Option ℕ) → CountsStand p c r all → CountsStand p c (arrives r n after) all
+pub counts_arrives : (p : Program) (c : Columns) (all : Counts) (r : Run) (n : ℕ) (after : Option ℕ) → CountsStand p c r all → CountsStand p c (arrives r n after) all
 counts_arrives p c all r n None now = now
 counts_arrives p c all r n (Some u) now = by (found r.outcomes u)
   where

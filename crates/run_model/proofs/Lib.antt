@@ -60,3 +60,4 @@ pub mod ValuesKept
 pub mod RootValues
 pub mod CountsParts
 pub mod CountsKept
+pub mod CountsRoots

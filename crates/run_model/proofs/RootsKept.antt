@@ -247,73 +247,72 @@ module _ (p : Program) (formed : IsWellFormed p) (units : ℕ) where
       subst (AreRootTasks p r.calls) (sym (own_snoc r.roots word))
       (one_more p formed r.calls (map own_task r.roots) (own_task word) now.tasks (λ root t there e. absurd (none-some t (sym none ∙ e))))
 
+  -- the next root gets a task, where each that it names has one
+  module _ (r : Run) (root : RootLine) (next : IsNextRoot p r root) (held : NumbersStand r) (now : RootsStand p r) (free : first_taskless r.roots (roots_named root) ≡ None) where
+    abbrev n : ℕ
+    n = next_number r.journal
+
+    abbrev call : Accepted
+    call = OfCall (root_call (own_tasks r) root) (root_waits (own_tasks r) root.behind)
+
+    below : AllBelow (length r.roots) (roots_named root)
+    below = root_below p (length r.roots) root formed next.there
+
+    has : (k : ℕ) → ((i : ℕ) × (slice_get (roots_named root) i ≡ Some k)) → HasOwn (own_tasks r) k
+    has k (i, e) = all_have r.roots (roots_named root) below free i k e
+
+    named_of : (a : RootArgument) (at : ℕ) → slice_get root.arguments at ≡ Some a → NamesTasks (own_tasks r) a
+    named_of (root_argument.Number x) at e = tt
+    named_of (root_argument.Root k) at e = has k (append_left (flat_map root_passed root.arguments) (root_waited root.behind) k (argument_named root.arguments at k e))
+
+    waited_of : (behind : Option ℕ) → root.behind ≡ behind → IfSome behind (HasOwn (own_tasks r))
+    waited_of None e = tt
+    waited_of (Some k) e = has k (append_right (flat_map root_passed root.arguments) (root_waited root.behind) k 0 (ap (λ o. slice_get (root_waited o) 0) e))
+
+    up_to : (o : Option ℕ) → ((u : ℕ) → o ≡ Some u → (at : ℕ) × (future_at (own_tasks r) at ≡ Some u)) → NamesUpTo (length r.calls) o
+    up_to None h = tt
+    up_to (Some u) h =
+        let (at, e) = h u refl in
+        let within = task_within r.journal.rows u (held.names.in_roots at u (own_named r.roots at u e)) in omega (arith, within.1, held.beside.of_calls)
+
+    future_of : (arguments : List RootArgument) (i : ℕ) (o : Option ℕ) → slice_get (map (root_future (own_tasks r)) arguments) i ≡ Some o → (u : ℕ) → o ≡ Some u → (at : ℕ) × (future_at (own_tasks r) at ≡ Some u)
+    future_of [] i o e u f = absurd (none-some o e)
+    future_of (root_argument.Number x ∷ more) zero o e u f = absurd (none-some u (same_Some None o e ∙ f))
+    future_of (root_argument.Root k ∷ more) zero o e u f = (k, same_Some (future_at (own_tasks r) k) o e ∙ f)
+    future_of (a ∷ more) (suc i) o e u f = future_of more i o e u f
+
+    waits_of : (behind : Option ℕ) (u : ℕ) → root_waits (own_tasks r) behind ≡ Some u → (at : ℕ) × (future_at (own_tasks r) at ≡ Some u)
+    waits_of None u e = absurd (none-some u e)
+    waits_of (Some k) u e = (k, e)
+
+    new_task : IsRootTask (r.calls ++ call ∷ []) (own_tasks r) root n
+    new_task = record {
+      before = length r.calls;
+      follows = ap suc (sym held.beside.of_calls);
+      accepted_as = get_last r.calls call;
+      arguments = λ at a e. named_of a at e;
+      waits = waited_of root.behind refl;
+      earlier = λ i o e. up_to o (future_of root.arguments i o e);
+      earlier_waits = up_to (root_waits (own_tasks r) root.behind) (waits_of root.behind);
+    }
+
+    lifted : (other : RootLine) (t : ℕ) → slice_get p.roots (length (own_tasks r)) ≡ Some other → Some n ≡ Some t → IsRootTask (r.calls ++ call ∷ []) (own_tasks r ++ Some n ∷ []) other t
+    lifted other t there e =
+        let is_root : root ≡ other = same_Some root other (sym next.there ∙ ap (slice_get p.roots) (sym (own_length r.roots)) ∙ there) in
+        let up = task_up p formed (r.calls ++ call ∷ []) (own_tasks r) (Some n) (length (own_tasks r)) root n (ap (slice_get p.roots) (own_length r.roots) ∙ next.there) (omega arith) new_task in
+        rw (sym is_root, sym (same_Some n t e)) up
+
+    pub tasks_with : AreRootTasks p (r.calls ++ call ∷ []) (map own_task (r.roots ++ Named n ∷ []))
+    tasks_with = subst (AreRootTasks p (r.calls ++ call ∷ [])) (sym (own_snoc r.roots (Named n))) (one_more p formed (r.calls ++ call ∷ []) (own_tasks r) (Some n) (tasks_later p r.calls call (own_tasks r) now.tasks) lifted)
+
   pub roots_root : (r s : Run) (root : RootLine) → IsNextRoot p r root → NumbersStand r → RootsStand p r → RootMove p units r root s → RootsStand p s
   roots_root r _ root next held now (RootMove.refused tag notes free how) =
       record { few = few_more r root (Refused tag) next; skipped = word_added r root (Refused tag) next now free; tasks = no_task r (Refused tag) now refl }
   roots_root r _ root next held now (RootMove.skipped first e) =
       record { few = few_more r root (Skipped first.0 first.1) next; skipped = word_added r root (Skipped first.0 first.1) next now e; tasks = no_task r (Skipped first.0 first.1) now refl }
   roots_root r _ root next held now (RootMove.named block free placed some) =
-      arrives_roots p (with_root (accepts units r (root_request p r root) block) (Named n)) n (root_request p r root).after
-      (record { few = few_more r root (Named n) next; skipped = word_added r root (Named n) next now free; tasks = tasks })
-    where
-      n : ℕ
-      n = next_number r.journal
-
-      own : List (Option ℕ)
-      own = own_tasks r
-
-      call : Accepted
-      call = OfCall (root_call (own_tasks r) root) (root_waits (own_tasks r) root.behind)
-
-      below : AllBelow (length r.roots) (roots_named root)
-      below = root_below p (length r.roots) root formed next.there
-
-      has : (k : ℕ) → ((i : ℕ) × (slice_get (roots_named root) i ≡ Some k)) → HasOwn (own_tasks r) k
-      has k (i, e) = all_have r.roots (roots_named root) below free i k e
-
-      named_of : (a : RootArgument) (at : ℕ) → slice_get root.arguments at ≡ Some a → NamesTasks (own_tasks r) a
-      named_of (root_argument.Number x) at e = tt
-      named_of (root_argument.Root k) at e = has k (append_left (flat_map root_passed root.arguments) (root_waited root.behind) k (argument_named root.arguments at k e))
-
-      waited_of : (behind : Option ℕ) → root.behind ≡ behind → IfSome behind (HasOwn (own_tasks r))
-      waited_of None e = tt
-      waited_of (Some k) e = has k (append_right (flat_map root_passed root.arguments) (root_waited root.behind) k 0 (ap (λ o. slice_get (root_waited o) 0) e))
-
-      up_to : (o : Option ℕ) → ((u : ℕ) → o ≡ Some u → (at : ℕ) × (future_at (own_tasks r) at ≡ Some u)) → NamesUpTo (length r.calls) o
-      up_to None h = tt
-      up_to (Some u) h =
-          let (at, e) = h u refl in
-          let within = task_within r.journal.rows u (held.names.in_roots at u (own_named r.roots at u e)) in omega (arith, within.1, held.beside.of_calls)
-
-      future_of : (arguments : List RootArgument) (i : ℕ) (o : Option ℕ) → slice_get (map (root_future (own_tasks r)) arguments) i ≡ Some o → (u : ℕ) → o ≡ Some u → (at : ℕ) × (future_at (own_tasks r) at ≡ Some u)
-      future_of [] i o e u f = absurd (none-some o e)
-      future_of (root_argument.Number x ∷ more) zero o e u f = absurd (none-some u (same_Some None o e ∙ f))
-      future_of (root_argument.Root k ∷ more) zero o e u f = (k, same_Some (future_at (own_tasks r) k) o e ∙ f)
-      future_of (a ∷ more) (suc i) o e u f = future_of more i o e u f
-
-      waits_of : (behind : Option ℕ) (u : ℕ) → root_waits (own_tasks r) behind ≡ Some u → (at : ℕ) × (future_at (own_tasks r) at ≡ Some u)
-      waits_of None u e = absurd (none-some u e)
-      waits_of (Some k) u e = (k, e)
-
-      new_task : IsRootTask (r.calls ++ call ∷ []) (own_tasks r) root n
-      new_task = record {
-        before = length r.calls;
-        follows = ap suc (sym held.beside.of_calls);
-        accepted_as = get_last r.calls call;
-        arguments = λ at a e. named_of a at e;
-        waits = waited_of root.behind refl;
-        earlier = λ i o e. up_to o (future_of root.arguments i o e);
-        earlier_waits = up_to (root_waits (own_tasks r) root.behind) (waits_of root.behind);
-      }
-
-      lifted : (other : RootLine) (t : ℕ) → slice_get p.roots (length (own_tasks r)) ≡ Some other → Some n ≡ Some t → IsRootTask (r.calls ++ call ∷ []) (own_tasks r ++ Some n ∷ []) other t
-      lifted other t there e =
-          let is_root : root ≡ other = same_Some root other (sym next.there ∙ ap (slice_get p.roots) (sym (own_length r.roots)) ∙ there) in
-          let up = task_up p formed (r.calls ++ call ∷ []) (own_tasks r) (Some n) (length (own_tasks r)) root n (ap (slice_get p.roots) (own_length r.roots) ∙ next.there) (omega arith) new_task in
-          rw (sym is_root, sym (same_Some n t e)) up
-
-      tasks : AreRootTasks p (r.calls ++ call ∷ []) (map own_task (r.roots ++ Named n ∷ []))
-      tasks = subst (AreRootTasks p (r.calls ++ call ∷ [])) (sym (own_snoc r.roots (Named n))) (one_more p formed (r.calls ++ call ∷ []) (own_tasks r) (Some n) (tasks_later p r.calls call (own_tasks r) now.tasks) lifted)
+      arrives_roots p (with_root (accepts units r (root_request p r root) block) (Named (next_number r.journal))) (next_number r.journal) (root_request p r root).after
+      (record { few = few_more r root (Named (next_number r.journal)) next; skipped = word_added r root (Named (next_number r.journal)) next now free; tasks = tasks_with r root next held now free })
 
 module _ (p : Program) (c : Columns) (units : ℕ) where
   pub roots_move : (r s : Run) → RootsStand p r → Move p c units r s → RootsStand p s
