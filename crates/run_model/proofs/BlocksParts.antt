@@ -23,7 +23,7 @@ use Rattle.run_model.proofs.UsedFacts.{Uses, in_use, any_from}
 use Rattle.run_model.proofs.UsedSound.{IsPlaced, SuperFits, BlocksFit, pool_with, superblock_at, set_in_at, counted, stands_here, classes_of}
 
 -- the blocks in use, as a list
-used_member : (roots : List RootWord) (bodies : List (Option Body)) (t : ℕ) (blocks : List (Option BlockState)) (i : ℕ) (b : BlockState) → slice_get (used_from roots bodies t blocks) i ≡ Some b
+pub used_member : (roots : List RootWord) (bodies : List (Option Body)) (t : ℕ) (blocks : List (Option BlockState)) (i : ℕ) (b : BlockState) → slice_get (used_from roots bodies t blocks) i ≡ Some b
     → (k : ℕ) × (slice_get blocks k ≡ Some (Some b)) × (is_in_use roots bodies (t + k) ≡ true)
 used_member roots bodies t [] i b e = absurd (none-some b e)
 used_member roots bodies t (None ∷ more) i b e = let (k, there, used) = used_member roots bodies (suc t) more i b e in let same : suc t + k ≡ t + suc k = omega arith in (suc k, there, ap (is_in_use roots bodies) (sym same) ∙ used)

@@ -109,7 +109,7 @@ counts_arrives p c all r n (Some u) now = by (found r.outcomes u)
     by (Some outcome) = now
 
 -- a request is for a block of a class of its program
-may_ask : (p : Program) → IsWellFormed p → IsValid p → (c : Columns) (r : Run) (after : Option ℕ) (q : FrameOf ℕ) → IsSeated p r after true q → (request : Request) (to : ℕ) (retry : Bool) → Asks p c q request to retry → MayAsk p request.class
+pub may_ask : (p : Program) → IsWellFormed p → IsValid p → (c : Columns) (r : Run) (after : Option ℕ) (q : FrameOf ℕ) → IsSeated p r after true q → (request : Request) (to : ℕ) (retry : Bool) → Asks p c q request to retry → MayAsk p request.class
 may_ask p formed valid c r after q seat _ _ _ (Asks.calls line to call waits there e) = (class_fits (1 + variables_of p call.kind), of_class)
   where
     of_class : (k : ℕ) → IsOfClass p k → kind_class p call.kind ≡ k

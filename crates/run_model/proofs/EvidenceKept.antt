@@ -33,7 +33,7 @@ use Rattle.run_model.proofs.BlocksInvariant.{EvidenceHolds, EvidenceStands}
 use Rattle.run_model.proofs.Reached.{IsNextRoot}
 
 -- the members of a list that a function made
-word_at : (superblocks : List SuperblockState) (at : ℕ) (word : SuperWord) → slice_get (map word_of superblocks) at ≡ Some word → (s : SuperblockState) × (slice_get superblocks at ≡ Some s) × (word_of s ≡ word)
+pub word_at : (superblocks : List SuperblockState) (at : ℕ) (word : SuperWord) → slice_get (map word_of superblocks) at ≡ Some word → (s : SuperblockState) × (slice_get superblocks at ≡ Some s) × (word_of s ≡ word)
 word_at [] at word e = absurd (none-some word e)
 word_at (s ∷ superblocks) zero word e = (s, refl, same_Some (word_of s) word e)
 word_at (s ∷ superblocks) (suc at) word e = word_at superblocks at word e

@@ -61,3 +61,5 @@ pub mod RootValues
 pub mod CountsParts
 pub mod CountsKept
 pub mod CountsRoots
+pub mod CountsRoom
+pub mod CountsEnd
