@@ -1,5 +1,5 @@
 -- The end of a run is complete, where the meaning has counts, these are within the limit, and the pool suffices.
-use Rattle.std.proofs.Common.{◌≡◌, ℕ, zero, suc, ◌+◌, ◌≤◌, Option, Some, None, List, [], ◌∷◌, length, map, slice_get, refl, sym, ◌∙◌, ap, subst, arith}
+use Rattle.std.proofs.Common.{◌≡◌, ℕ, zero, suc, ◌≤◌, Some, List, [], ◌∷◌, length, map, slice_get, refl, sym, ◌∙◌, ap, subst, arith}
 use Rattle.std.proofs.lemmas.Option.{none-some, same_Some}
 use Rattle.task_syntax.specs.Places.{Each}
 use Rattle.task_syntax.specs.Form.{IsWellFormed}
@@ -16,8 +16,7 @@ use Rattle.record_core.specs.Numbers.{found}
 use Rattle.record_core.specs.Journal.{task_count}
 use Rattle.record_core.specs.EndSeen.{RunPlan}
 use Rattle.record_core.specs.EndSound.{Suffices, IsValueEnd, IsComplete, EndComplete}
-use Rattle.record_core.specs.declared.rows.RootEnd.{RootEnd}
-use Rattle.run_model.specs.State.{Body, Outcome, Gave, WasCut, RootWord, Named, Refused, Skipped, Run}
+use Rattle.run_model.specs.State.{Outcome, Gave, WasCut, RootWord, Named, Refused, Skipped, Run}
 use Rattle.run_model.specs.End.{OneThreadRun, end_at, root_end, end_seen, state_at}
 use Rattle.run_model.proofs.ByNumber.{has_some}
 use Rattle.run_model.proofs.Reached.{always}

@@ -10,12 +10,12 @@ use Rattle.task_syntax.specs.declared.value.Priority.{Priority}
 use Rattle.task_syntax.specs.declared.program.Program.{Program}
 use Rattle.task_syntax.specs.declared.columns.Columns.{Columns}
 use Rattle.task_meaning.specs.Meant.{Counts, Meant, future_at, behind}
-use Rattle.task_meaning.specs.Frame.{FrameOf, CallOf, enter, set_future}
+use Rattle.task_meaning.specs.Frame.{FrameOf, CallOf, set_future}
 use Rattle.task_meaning.specs.FrameLaws.{HasWorth, NamesAccepted, task_waited}
 use Rattle.task_meaning.specs.FrameCounts.{RestCounts}
 use Rattle.task_meaning.specs.Leads.{no_counts}
 use Rattle.task_meaning.specs.Acts.{Calls, Gathers}
-use Rattle.task_meaning.specs.Worths.{Accepted, OfAll, Respawn, worths}
+use Rattle.task_meaning.specs.Worths.{Accepted, Respawn, worths}
 use Rattle.task_meaning.proofs.Ahead.{jumps_ahead}
 use Rattle.task_meaning.proofs.Worths.{steps-rest}
 use Rattle.task_meaning.proofs.FrameCounts.{grown-counts, accepted_spawns-counts}
@@ -25,7 +25,6 @@ use Rattle.frame_code.specs.Words.{OfKind, OfMembers}
 use Rattle.record_core.specs.Numbers.{by_number, put_number, flat, found}
 use Rattle.record_core.specs.Journal.{next_number, task_count}
 use Rattle.task_meaning.specs.Frame.{variables_of}
-use Rattle.record_core.specs.EndSeen.{RunPlan}
 use Rattle.record_core.specs.EndSound.{kind_class, members_class, IsAllOfClass, IsOfClass}
 use Rattle.record_core.proofs.TotalFacts.{total-snoc}
 use Rattle.record_core.specs.declared.rows.ActivationRow.{ActivationRow}
@@ -34,9 +33,9 @@ use Rattle.record_core.specs.declared.rows.Cause.TheVariants as cause
 use Rattle.record_core.specs.declared.rows.CutTag.{CutTag}
 use Rattle.run_model.specs.State.{Body, Outcome, Gave, WasCut, Run, Queues, next_queued}
 use Rattle.run_model.specs.Placing.{pool_of, placed}
-use Rattle.run_model.specs.Step.{Request, tasks_named, call_request, all_request, asked_priority, at_first, has_number, arrives, waits_or_queues, accepts, with_body, completes}
+use Rattle.run_model.specs.Step.{Request, tasks_named, call_request, all_request, asked_priority, has_number, arrives, waits_or_queues, accepts, with_body, completes}
 use Rattle.run_model.specs.Move.{Notes, with_notes, RunsAt, Goes, Asks, Answers, Renews, Refuses, Move, begins}
-use Rattle.run_model.proofs.ByNumber.{length_put, length_snoc, member_at, snoc_new, snoc_old, found_put, found_put_other, none_of_empty}
+use Rattle.run_model.proofs.ByNumber.{length_put, length_snoc, member_at, snoc_new, snoc_old, found_put, found_put_other}
 use Rattle.run_model.proofs.NumbersInvariant.{NumbersStand, IsLiveAt}
 use Rattle.run_model.proofs.CallsInvariant.{CallsStand}
 use Rattle.run_model.proofs.LiveFacts.{read_snoc, outcome_snoc, same_row, one_live, not_running, one_started}

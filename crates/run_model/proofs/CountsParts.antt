@@ -1,7 +1,6 @@
 -- What stands of counts after each part of a move.
-use Rattle.std.proofs.Common.{◌≡◌, ◌≢◌, ℕ, zero, suc, ◌+◌, ◌≤◌, ◌<◌, cond, nat_eq, Option, Some, None, List, [], ◌∷◌, ◌++◌, length, slice_get, refl, sym, ◌∙◌, ap, subst, inl, inr, ⊎_elim, arith, ne_eqb, eq-eqb}
+use Rattle.std.proofs.Common.{◌≡◌, ◌≢◌, ℕ, zero, suc, ◌+◌, ◌≤◌, cond, nat_eq, Option, Some, None, List, [], ◌∷◌, ◌++◌, length, refl, sym, ◌∙◌, ap, subst, inl, inr, ⊎_elim, arith, ne_eqb, eq-eqb}
 use Rattle.std.specs.Prelude.{◌⊎◌, slice_set}
-use Rattle.std.proofs.lemmas.Bool.{cases_eq}
 use Rattle.std.proofs.lemmas.Option.{none-some, same_Some}
 use Rattle.task_syntax.specs.declared.program.Program.{Program}
 use Rattle.task_syntax.specs.declared.columns.Columns.{Columns}
@@ -14,10 +13,9 @@ use Rattle.record_core.specs.Sums.{total}
 use Rattle.record_core.specs.Numbers.{by_number, put_number, found}
 use Rattle.record_core.specs.Journal.{tasks_from, task_count}
 use Rattle.record_core.specs.declared.rows.ActivationRow.{ActivationRow}
-use Rattle.record_core.proofs.TotalFacts.{total-set, total-snoc}
+use Rattle.record_core.proofs.TotalFacts.{total-set}
 use Rattle.run_model.specs.State.{Body}
-use Rattle.run_model.proofs.ByNumber.{length_put, number_within, snoc_cases, found_new, found_other, found_put, found_put_other}
-use Rattle.run_model.proofs.LiveFacts.{same_row}
+use Rattle.run_model.proofs.ByNumber.{number_within, snoc_cases, found_new, found_other, found_put, found_put_other}
 use Rattle.run_model.proofs.NumbersInvariant.{IsLiveAt}
 use Rattle.run_model.proofs.CountsInvariant.{BodyCounts, BodiesCount}
 

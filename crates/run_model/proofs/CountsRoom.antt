@@ -1,5 +1,5 @@
 -- While a task is still to come, a pool that suffices has a block for it.
-use Rattle.std.proofs.Common.{◌≡◌, ◌≢◌, ℕ, zero, suc, ◌+◌, ◌*◌, ◌≤◌, ◌<◌, Bool, true, false, cond, Option, Some, None, List, [], ◌∷◌, ◌++◌, length, map, slice_get, refl, sym, ◌∙◌, ap, subst, inl, inr, ⊎_elim, arith}
+use Rattle.std.proofs.Common.{◌≡◌, ℕ, suc, ◌+◌, ◌*◌, ◌≤◌, ◌<◌, Bool, true, false, cond, Option, Some, None, List, [], ◌∷◌, ◌++◌, length, slice_get, refl, sym, ◌∙◌, ap, subst, inl, inr, ⊎_elim, arith}
 use Rattle.std.specs.Option.{is_some}
 use Rattle.std.proofs.lemmas.Option.{none-some, same_Some}
 use Rattle.task_syntax.specs.Places.{Each}
@@ -27,7 +27,7 @@ use Rattle.record_core.specs.EndSound.{kind_class, members_class, evidence_count
 use Rattle.record_core.specs.declared.rows.ActivationRow.{ActivationRow}
 use Rattle.run_model.specs.State.{Outcome, Named, Super, Run}
 use Rattle.run_model.specs.Step.{arrives, waits_or_queues, accepts, with_body, with_root, root_request, at_first}
-use Rattle.run_model.specs.Placing.{stands_in, count_in, used_from, superblock_of, pool_of, placed, word_of, words_of}
+use Rattle.run_model.specs.Placing.{stands_in, count_in, used_from, pool_of, placed, words_of}
 use Rattle.run_model.specs.Move.{with_notes, Move, RootMove}
 use Rattle.run_model.proofs.ByNumber.{member_at, snoc_cases, none_of_empty}
 use Rattle.run_model.proofs.NumbersInvariant.{NumbersStand}
@@ -37,7 +37,7 @@ use Rattle.run_model.proofs.FramesInvariant.{FramesStand}
 use Rattle.run_model.proofs.TasksStand.{tasks_of}
 use Rattle.run_model.proofs.FramesParts.{renewed_run}
 use Rattle.run_model.proofs.FramesKept.{running_stands}
-use Rattle.run_model.proofs.UsedSound.{IsPlaced, superblock_at, is_place, classes_of}
+use Rattle.run_model.proofs.UsedSound.{superblock_at, is_place, classes_of}
 use Rattle.run_model.proofs.BlocksInvariant.{class_of_call, EvidenceHolds}
 use Rattle.run_model.proofs.BlocksParts.{used_member, core_fit}
 use Rattle.run_model.proofs.BlocksKept.{BlocksHeld, class_fits, request_fits}

@@ -1,5 +1,5 @@
 -- What stands of counts before the first root, and after each root that is asked for.
-use Rattle.std.proofs.Common.{◌≡◌, ℕ, zero, suc, ◌+◌, ◌≤◌, Option, Some, None, List, [], ◌∷◌, ◌++◌, length, map, slice_get, refl, sym, ◌∙◌, ap, subst, inl, inr, ⊎_elim, arith}
+use Rattle.std.proofs.Common.{◌≡◌, ℕ, suc, ◌+◌, ◌≤◌, Option, Some, None, List, [], ◌∷◌, ◌++◌, length, slice_get, refl, sym, ◌∙◌, ap, subst, inl, ⊎_elim, arith}
 use Rattle.std.proofs.lemmas.Bool.{ltb-false}
 use Rattle.std.proofs.lemmas.Option.{none-some, IfSome_then}
 use Rattle.std.specs.Option.{option_map, option_or}
@@ -9,7 +9,7 @@ use Rattle.task_syntax.specs.declared.program.Root.{Root as RootLine}
 use Rattle.task_syntax.specs.declared.program.Program.{Program}
 use Rattle.task_syntax.specs.declared.columns.Columns.{Columns}
 use Rattle.task_meaning.specs.Meant.{Counts}
-use Rattle.task_meaning.specs.Frame.{FrameOf, CallOf, entry, variables_of}
+use Rattle.task_meaning.specs.Frame.{FrameOf, entry, variables_of}
 use Rattle.task_meaning.specs.FrameCounts.{RestCounts}
 use Rattle.task_meaning.specs.RootCounts.{RootsLeft}
 use Rattle.task_meaning.specs.RootLaws.{root_waits, AreRootTasks}
@@ -27,8 +27,8 @@ use Rattle.record_core.specs.RootEnds.{roots_named}
 use Rattle.record_core.proofs.TotalFacts.{total-snoc}
 use Rattle.record_core.specs.declared.rows.ActivationRow.{ActivationRow}
 use Rattle.record_core.specs.declared.rows.CutTag.{CutTag}
-use Rattle.run_model.specs.State.{Body, WasCut, RootWord, Named, Refused, Skipped, Run}
-use Rattle.run_model.specs.Step.{Request, has_number, own_tasks, own_task, taskless, first_taskless, accepts, with_root, root_request, at_first}
+use Rattle.run_model.specs.State.{WasCut, RootWord, Named, Refused, Skipped, Run}
+use Rattle.run_model.specs.Step.{Request, own_tasks, taskless, first_taskless, accepts, with_root, root_request, at_first}
 use Rattle.run_model.specs.Move.{Notes, RefusesRoot, RootMove}
 use Rattle.run_model.proofs.ByNumber.{length_snoc, snoc_new, snoc_old, none_of_empty}
 use Rattle.run_model.proofs.NumbersInvariant.{NumbersStand, IsLiveAt}
@@ -39,9 +39,9 @@ use Rattle.run_model.proofs.RootsInvariant.{RootsStand}
 use Rattle.run_model.proofs.RootsKept.{future_last, own_snoc, own_length, call_same, futures_snoc, waits_snoc, formed_up, tasks_with}
 use Rattle.run_model.proofs.ValuesParts.{frame_names, after_names}
 use Rattle.run_model.proofs.BlocksKept.{class_fits}
-use Rattle.run_model.proofs.CountsInvariant.{IsNamed, BodyCounts, BodiesCount, CountsStand}
+use Rattle.run_model.proofs.CountsInvariant.{IsNamed, BodyCounts, CountsStand}
 use Rattle.run_model.proofs.CountsParts.{bodies_snoc, bodies_later, new_task_counts}
-use Rattle.run_model.proofs.CountsKept.{MayAsk, HasRoomLeft, counts_arrives, new_row}
+use Rattle.run_model.proofs.CountsKept.{HasRoomLeft, counts_arrives, new_row}
 use Rattle.run_model.proofs.Reached.{IsNextRoot}
 
 -- at first all roots are to come
