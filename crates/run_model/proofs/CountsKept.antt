@@ -133,19 +133,23 @@ module _ (p : Program) (formed : IsWellFormed p) (valid : IsValid p) (c : Column
 
     -- what is left of the running task
     module _ (t n : ℕ) (body : Body) (runs : RunsAt r t n body) where
+      -- its number is one of the rows
       within : (1 ≤ t) × (t ≤ length r.journal.rows)
       within = running_within r [] held t n body runs
 
+      -- so much is left of it
       left_here : (k : Counts) × (by_number now.left t ≡ Some k)
       left_here = member_at now.left t within.0 (omega (arith, within.1, now.beside))
 
+      -- as its body counts
       stands_here : BodyCounts p c r.journal.rows r.running r.calls t (Some body) left_here.0
       stands_here = subst (λ b. BodyCounts p c r.journal.rows r.running r.calls t b left_here.0) runs.has (now.bodies_count t left_here.0 left_here.1)
 
+      -- what its activation is behind has a worth
       waited : HasWorth p c r.calls runs.row.after
       waited = has_waited p formed valid c r held calls tasks values t n body runs
 
-      -- the running task stands at another body, of which as much is left
+      -- the running task ends with a value, and nothing was left of it
       ends_counts : (v : Value) (why : Cause) → left_here.0.tasks ≡ 0 → left_here.0.activations ≡ 0 → CountsStand p c (completes r t (Gave v) why) all
       ends_counts v why no_tasks no_activations = record {
         left = put_number now.left t no_counts;
@@ -190,9 +194,9 @@ module _ (p : Program) (formed : IsWellFormed p) (valid : IsValid p) (c : Column
     goes_rest_counts after q _ k (Goes.reads to x u i acts names gave) rest =
         (reads-counts p c (jumps_ahead p formed) r.calls after q to x u i k acts names (values.complete u (Number i) gave)).0 rest
 
+    -- so the task is kept, where it goes on
     goes_counts : (t n : ℕ) (q next : FrameOf ℕ) → RunsAt r t n (OfKind q) → Goes p c r q next → CountsStand p c (with_body r t (OfKind next)) all
     goes_counts t n q next runs goes =
-        let (k, e) = left_here t n (OfKind q) runs in
         let rest = goes_rest_counts runs.row.after q next (left_here t n (OfKind q) runs).0 goes (frame_here t n q runs) in
         let lies = within t n (OfKind q) runs in
         record {
@@ -274,6 +278,7 @@ module _ (p : Program) (formed : IsWellFormed p) (valid : IsValid p) (c : Column
       of_tasks : (left_here t n (OfKind q) runs).0.tasks ≡ 1 + (first.tasks + rest.tasks)
       of_activations : (left_here t n (OfKind q) runs).0.activations ≡ 1 + (first.activations + rest.activations)
 
+    -- as the line of a spawn or an aggregate says
     asks_for : (t n : ℕ) (q : FrameOf ℕ) (runs : RunsAt r t n (OfKind q)) (request : Request) (to : ℕ) (retry : Bool) → Asks p c q request to retry → AsksFor t n q runs request to
     asks_for t n q runs _ _ _ (Asks.calls line to call waits there e) =
         let request = call_request p call (task_waited q waits) (asked_priority line.instr) in
@@ -314,9 +319,9 @@ module _ (p : Program) (formed : IsWellFormed p) (valid : IsValid p) (c : Column
         }
 
     -- other calls leave what is counted from a frame of before
-    stays_drawn : (row : ActivationRow) (call : Accepted) (t m : ℕ) (other : ActivationRow) (q : FrameOf ℕ) → found r.bodies t ≡ Some (OfKind q) → by_number r.journal.rows m ≡ Some other
+    stays_drawn : (call : Accepted) (t m : ℕ) (other : ActivationRow) (q : FrameOf ℕ) → found r.bodies t ≡ Some (OfKind q) → by_number r.journal.rows m ≡ Some other
         → (k : Counts) → RestCounts p c r.calls other.after q k → RestCounts p c (r.calls ++ call ∷ []) other.after q k
-    stays_drawn row call t m other q has there k rest = (grown-counts p c r.calls call other.after q k (frame_names r held t q has, after_names r held calls m other there)).0 rest
+    stays_drawn call t m other q has there k rest = (grown-counts p c r.calls call other.after q k (frame_names r held t q has, after_names r held calls m other there)).0 rest
 
     -- a new task is drawn
     spawns_counts : (units t n to : ℕ) (q : FrameOf ℕ) (request : Request) (retry : Bool) (block : BlockState) → RunsAt r t n (OfKind q) → Asks p c q request to retry
@@ -364,7 +369,7 @@ module _ (p : Program) (formed : IsWellFormed p) (valid : IsValid p) (c : Column
         stays : (u m : ℕ) (other : ActivationRow) (frame : FrameOf ℕ) → found r.bodies u ≡ Some (OfKind frame) → IsLiveAt r.journal.rows r.running u m other
             → (row' : ActivationRow) × IsLiveAt rows' r.running u m row' × ((x : Counts) → RestCounts p c r.calls other.after frame x → RestCounts p c calls' row'.after frame x)
         stays u m other frame has live =
-            (other, record { there = snoc_old r.journal.rows row m other live.there; of_task = live.of_task; live = live.live }, stays_drawn row request.call u m other frame has live.there)
+            (other, record { there = snoc_old r.journal.rows row m other live.there; of_task = live.of_task; live = live.live }, stays_drawn request.call u m other frame has live.there)
 
         drawn : BodiesCount p c rows' r.running calls' (r.bodies ++ Some request.body ∷ []) (now.left ++ asked.first ∷ [])
         drawn = bodies_snoc p c rows' r.running calls' r.bodies now.left (Some request.body) asked.first (omega (arith, now.beside, held.beside.of_bodies))
@@ -378,6 +383,7 @@ module _ (p : Program) (formed : IsWellFormed p) (valid : IsValid p) (c : Column
       of_tasks : (left_here t n body runs).0.tasks ≡ rest.tasks
       of_activations : (left_here t n body runs).0.activations ≡ suc rest.activations
 
+    -- a further activation is drawn, and the task stands at another body
     renews_counts : (t n : ℕ) (body to : Body) (after : Option ℕ) (priority : Priority) (runs : RunsAt r t n body) → (notes : Notes) → notes.nulls ≡ 0 → Renewed t n body runs to after
         → CountsStand p c (renewed_run (with_notes r notes) t to after priority) all
     renews_counts t n body to after priority runs notes no_null renewed = record {
@@ -385,7 +391,7 @@ module _ (p : Program) (formed : IsWellFormed p) (valid : IsValid p) (c : Column
       roots_left = now.roots_left;
       beside = length_put (now.left ++ no_counts ∷ []) t renewed.rest ∙ length_snoc now.left no_counts ∙ ap suc now.beside ∙ sym (length_snoc r.journal.rows row);
       bodies_count = subst (λ x. BodiesCount p c rows' None calls' x (put_number (now.left ++ no_counts ∷ []) t renewed.rest)) (put_twice (r.bodies ++ None ∷ []) t None (Some to))
-          (subst (λ x. BodiesCount p c rows' None calls' (put_number (put_number (r.bodies ++ None ∷ []) t None) t (Some to)) x) (put_twice (now.left ++ no_counts ∷ []) t no_counts renewed.rest) (again));
+          (subst (λ x. BodiesCount p c rows' None calls' (put_number (put_number (r.bodies ++ None ∷ []) t None) t (Some to)) x) (put_twice (now.left ++ no_counts ∷ []) t no_counts renewed.rest) again);
       to_come = now.to_come;
       add_up = record {
         tasks = omega (arith, now.add_up.tasks, old_task_counts r.journal.rows row lies.1, total-snoc (λ (x : Counts). x.tasks) now.left no_counts,
@@ -425,7 +431,7 @@ module _ (p : Program) (formed : IsWellFormed p) (valid : IsValid p) (c : Column
             let differ : u ≢ t = λ same. absurd (none-some (OfKind q) (sym (found_put (r.bodies ++ None ∷ []) t None lies.0 many) ∙ sym (ap (found (put_number (r.bodies ++ None ∷ []) t None)) same) ∙ has)) in
             let start = not_running r.journal.rows r.journal.tasks r.outcomes r.bodies r.running held.live t n runs.row runs.running runs.there runs.of_task u m other differ live in
             let old = sym (read_snoc flat r.bodies None refl u) ∙ sym (found_put_other (r.bodies ++ None ∷ []) t u None differ) ∙ has in
-            (other, record { there = snoc_old r.journal.rows row m other live.there; of_task = live.of_task; live = inl start }, stays_drawn row (Respawn t after) u m other q old live.there)
+            (other, record { there = snoc_old r.journal.rows row m other live.there; of_task = live.of_task; live = inl start }, stays_drawn (Respawn t after) u m other q old live.there)
 
         out : BodiesCount p c rows' None calls' (put_number (r.bodies ++ None ∷ []) t None) (put_number (now.left ++ no_counts ∷ []) t no_counts)
         out = bodies_later p c r.journal.rows rows' r.running None r.calls calls' (put_number (r.bodies ++ None ∷ []) t None) (put_number (now.left ++ no_counts ∷ []) t no_counts) stays
@@ -450,8 +456,9 @@ module _ (p : Program) (formed : IsWellFormed p) (valid : IsValid p) (c : Column
         let full = ltb-false (length r.journal.rows) r.journal.limit none in
         absurd (omega (arith, full, same, fits, many, (some_left t n body runs).1, now.add_up.activations))
 
-    -- nor is a task refused a block
+    -- where the pool has room left
     module _ (units : ℕ) (room : HasRoomLeft p units all r) where
+      -- the pool has a block for the task that is asked for
       has_block : (t n to : ℕ) (q : FrameOf ℕ) (request : Request) (retry : Bool) → RunsAt r t n (OfKind q) → Asks p c q request to retry → placed (pool_of units r) request.class ≡ None → ⊥
       has_block t n to q request retry runs asks none =
           let asked = asks_for t n q runs request to retry asks in

@@ -61,9 +61,11 @@ pub tasks_more : (n : ℕ) (rows : List ActivationRow) (row : ActivationRow) →
 tasks_more n [] row = omega (arith, first_of row n (n + 0) (omega arith))
 tasks_more n (first ∷ rows) row = omega (arith, tasks_more (suc n) rows row, first_of row (suc n + length rows) (n + suc (length rows)) (omega arith))
 
+-- the row of a new task counts one
 pub new_task_counts : (rows : List ActivationRow) (row : ActivationRow) → row.task ≡ suc (length rows) → task_count (rows ++ row ∷ []) ≡ task_count rows + 1
 new_task_counts rows row same = let one : ◌≡◌ {A = ℕ} (cond (nat_eq row.task (1 + length rows)) 1 0) 1 = ap (λ x. cond x 1 0) (eq-eqb row.task (1 + length rows) (omega (arith, same))) in omega (arith, tasks_more 1 rows row, one)
 
+-- and a row of an older task none
 pub old_task_counts : (rows : List ActivationRow) (row : ActivationRow) → row.task ≤ length rows → task_count (rows ++ row ∷ []) ≡ task_count rows
 old_task_counts rows row within =
     let none : ◌≡◌ {A = ℕ} (cond (nat_eq row.task (1 + length rows)) 1 0) 0 = ap (λ x. cond x 1 0) (ne_eqb row.task (1 + length rows) (λ same. absurd (omega (arith, same, within)))) in

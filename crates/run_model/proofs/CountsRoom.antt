@@ -49,9 +49,11 @@ use Rattle.run_model.proofs.Reached.{IsNextRoot}
 abbrev pub CallsAsk : Program → List Accepted → Type 0
 CallsAsk p calls = (t class : ℕ) (call : Accepted) → by_number calls t ≡ Some call → class_of_call p call ≡ Some class → MayAsk p class
 
+-- at first nothing was accepted
 pub ask_first : (p : Program) (plan : RunPlan) → CallsAsk p (at_first plan).calls
 ask_first p plan t class call e = absurd (none-some call (sym (none_of_empty t) ∙ e))
 
+-- one more call, whose class is one of the program
 ask_snoc : (p : Program) (calls : List Accepted) (call : Accepted) → CallsAsk p calls → ((class : ℕ) → class_of_call p call ≡ Some class → MayAsk p class) → CallsAsk p (calls ++ call ∷ [])
 ask_snoc p calls call now new t class other e of_class =
     ⊎_elim (λ old. now t class other old of_class) (λ added. new class (sym (ap (class_of_call p) added.1) ∙ of_class)) (snoc_cases calls call t other e)
@@ -69,6 +71,7 @@ ask_arrives p r n (Some u) now = by (found r.outcomes u)
 none_asked : (p : Program) (t : ℕ) (after : Option ℕ) (class : ℕ) → class_of_call p (Respawn t after) ≡ Some class → MayAsk p class
 none_asked p t after class e = absurd (none-some class e)
 
+-- asking for a root keeps this
 pub ask_root : (p : Program) → IsWellFormed p → (units : ℕ) (r s : Run) (root : RootLine) → IsNextRoot p r root → CallsAsk p r.calls → RootMove p units r root s → CallsAsk p s.calls
 ask_root p formed units r _ root next now (RootMove.named block free placed some) =
     ask_arrives p (with_root (accepts units r (root_request p r root) block) (Named (next_number r.journal))) (next_number r.journal) (root_request p r root).after
@@ -78,6 +81,7 @@ ask_root p formed units r _ root next now (RootMove.named block free placed some
 ask_root p formed units r _ root next now (RootMove.refused tag notes free how) = now
 ask_root p formed units r _ root next now (RootMove.skipped first e) = now
 
+-- so does each move
 pub ask_move : (p : Program) → IsWellFormed p → IsValid p → (c : Columns) (units : ℕ) (r s : Run) → NumbersStand r → FramesStand p r → CallsAsk p r.calls → Move p c units r s → CallsAsk p s.calls
 ask_move p formed valid c units r _ held frames now (Move.goes_on t n q next runs goes) = now
 ask_move p formed valid c units r _ held frames now (Move.spawned t n to q request retry block runs asks placed some) =
@@ -138,6 +142,7 @@ module _ (p : Program) (plan : RunPlan) (geometry : IsGeometry plan.superblocks 
       let is_super : place.super ≡ super = same_Some place.super super (sym place.there ∙ ap (slice_get r.supers) same ∙ there) in
       ap (λ (x : SuperblockState). x.class) is_s ∙ sym (ap (λ (x : Super). x.class) is_super) ∙ sym (ap (λ (x : BlockState). x.class) place.block_is) ∙ (used_asked i b has).1 k of
 
+  -- no room needs more blocks than there are tasks so far
   pub has_room_left : (all : Counts) → Suffices p plan all.tasks → HasRoomLeft p plan.units all r
   has_room_left all suffices class may few none = by suffices
     where

@@ -75,12 +75,6 @@ none_taskless words (at ∷ names) named =
 
 module _ (p : Program) (formed : IsWellFormed p) (c : Columns) (units : ℕ) (all : Counts) where
   module _ (r : Run) (root : RootLine) (next : IsNextRoot p r root) (held : NumbersStand r) (calls : CallsStand r) (roots : RootsStand p r) (now : CountsStand p c r all) where
-    request : Request
-    request = root_request p r root
-
-    call : Accepted
-    call = OfCall (root_call (own_tasks r) root) (root_waits (own_tasks r) root.behind)
-
     -- the next root counts a task and an activation, and what is counted from its first frame
     record NextCounts : Type 0 where
       first : Counts
@@ -178,6 +172,7 @@ module _ (p : Program) (formed : IsWellFormed p) (c : Columns) (units : ℕ) (al
         let full = ltb-false (length r.journal.rows) r.journal.limit none in
         absurd (omega (arith, full, same, fits, now.add_up.activations, counted.of_activations))
 
+    -- asking for a root keeps what stands of counts
     pub counts_asked : (limit : ℕ) → all.activations ≤ limit → r.journal.limit ≡ limit → HasRoomLeft p units all r → (s : Run) → RootMove p units r root s → CountsStand p c s all
     counts_asked limit fits same room _ (RootMove.named block free placed some) =
         counts_arrives p c all (with_root (accepts units r (root_request p r root) block) (Named (next_number r.journal))) (next_number r.journal) (root_request p r root).after (named_counts block free)
