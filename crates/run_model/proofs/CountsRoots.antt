@@ -28,7 +28,7 @@ use Rattle.record_core.proofs.TotalFacts.{total-snoc}
 use Rattle.record_core.specs.declared.rows.ActivationRow.{ActivationRow}
 use Rattle.record_core.specs.declared.rows.CutTag.{CutTag}
 use Rattle.run_model.specs.State.{WasCut, RootWord, Named, Refused, Skipped, Run}
-use Rattle.run_model.specs.Step.{Request, own_tasks, taskless, first_taskless, accepts, with_root, root_request, at_first}
+use Rattle.run_model.specs.Step.{own_tasks, taskless, first_taskless, accepts, with_root, root_request, at_first}
 use Rattle.run_model.specs.Move.{Notes, RefusesRoot, RootMove}
 use Rattle.run_model.proofs.ByNumber.{length_snoc, snoc_new, snoc_old, none_of_empty}
 use Rattle.run_model.proofs.NumbersInvariant.{NumbersStand, IsLiveAt}
