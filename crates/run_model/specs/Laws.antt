@@ -14,7 +14,7 @@ use Rattle.record_core.specs.Numbers.{by_number, found, HasTask}
 use Rattle.record_core.specs.Journal.{AreOfTasks, AreStampedOnce, AreInOrder, CausesLead, Leads, task_count, finish_of, cause_of}
 use Rattle.record_core.specs.JournalLaws.{GrowsFrom}
 use Rattle.record_core.specs.EndSeen.{EndSeen, RunPlan}
-use Rattle.record_core.specs.EndSound.{EndSound, HasNoRetry, HasEvidence, AreOwn, IsCutAsNamed, null_ends, own_of_class}
+use Rattle.record_core.specs.EndSound.{EndSound, EndComplete, HasNoRetry, HasEvidence, AreOwn, IsCutAsNamed, null_ends, own_of_class}
 use Rattle.record_core.specs.EndFaithful.{EndFaithful}
 use Rattle.record_core.specs.declared.rows.ActivationRow.{ActivationRow}
 use Rattle.record_core.specs.declared.rows.Cause.TheVariants as cause
@@ -117,3 +117,7 @@ EndsHaveEvidence = (p : Program) (c : Columns) (plan : RunPlan) (end : Run) → 
 -- the end of a run of a valid program is sound: all of this, and each value that a root shows is the meaning's
 abbrev pub EndsAreSound : Type 0
 EndsAreSound = (p : Program) (c : Columns) (plan : RunPlan) (end : Run) → IsWellFormed p → IsValid p → IsGeometry plan.superblocks plan.units → OneThreadRun p c plan end → EndSound p c plan (end_seen plan end)
+
+-- it is complete where the meaning has counts, these are within the limit, and the pool suffices
+abbrev pub EndsAreComplete : Type 0
+EndsAreComplete = (p : Program) (c : Columns) (plan : RunPlan) (end : Run) → IsWellFormed p → IsValid p → IsGeometry plan.superblocks plan.units → OneThreadRun p c plan end → EndComplete p c plan (end_seen plan end)

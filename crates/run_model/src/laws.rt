@@ -1,4 +1,4 @@
-ghost use Rattle.run_model.specs.Laws.{BlocksAreApart, EndsAreFaithful, EndsAreInOrder, EndsAreSound, EndsHaveEvidence, EndsHoldRoots, EndsSkipAsNamed, OneEnd, PlacesAsPoolsGive, PoolsAreSound, RunsEnd, StartsOnce};
+ghost use Rattle.run_model.specs.Laws.{BlocksAreApart, EndsAreComplete, EndsAreFaithful, EndsAreInOrder, EndsAreSound, EndsHaveEvidence, EndsHoldRoots, EndsSkipAsNamed, OneEnd, PlacesAsPoolsGive, PoolsAreSound, RunsEnd, StartsOnce};
 ghost use Rattle.run_model.specs.Move.{RootsMove, StepsMove};
 ghost use Rattle.run_model.specs.RuleRuns.{RuleRuns};
 ghost use Rattle.run_model.specs.ExampleRuns.{ExampleRuns};
@@ -73,4 +73,11 @@ pub fn ends_show_the_pool()
 /// each cut has its cause.
 pub fn ends_are_sound()
     ensures { EndsAreSound }
+{}
+
+/// The end of a run of a valid program is complete, where the program's meaning has counts, these
+/// are within the limit, and the pool suffices: nothing is cut, each root has a value, and so many
+/// tasks and activations are accepted.
+pub fn ends_are_complete()
+    ensures { EndsAreComplete }
 {}
