@@ -251,17 +251,24 @@ module _ (p : Program) (formed : IsWellFormed p) (valid : IsValid p) (c : Column
             let one = one_started r.journal.rows n (r.journal.stamps + 1) first there in
             ⊎_elim
             (λ same.
-            let is_first : first ≡ row = same_row r.journal.rows n first row there (sym (ap (by_number r.journal.rows) same) ∙ live.there) in
-            (record first { start = Some (r.journal.stamps + 1) }, record {
-              there = ap (by_number (begins r n queues).journal.rows) same ∙ one.here;
-              of_task = ap (λ (x : ActivationRow). x.task) is_first ∙ live.of_task;
-              live = inr (ap Some (sym same));
-            }, λ j rest. subst (λ (x : ActivationRow). RestCounts p c r.calls x.after q j) (sym is_first) rest))
-            (λ differ. (row, record {
-              there = one.others k differ ∙ live.there;
-              of_task = live.of_task;
-              live = inl (⊎_elim (λ e. e) (λ e. absurd (none-some k (sym idle ∙ e))) live.live);
-            }, λ j rest. rest))
+            let is_first : first ≡ row = same_row r.journal.rows n first row there (sym (ap (by_number r.journal.rows) same) ∙ live.there) in (
+              record first { start = Some (r.journal.stamps + 1) },
+              record {
+                there = ap (by_number (begins r n queues).journal.rows) same ∙ one.here;
+                of_task = ap (λ (x : ActivationRow). x.task) is_first ∙ live.of_task;
+                live = inr (ap Some (sym same));
+              },
+              λ j rest. subst (λ (x : ActivationRow). RestCounts p c r.calls x.after q j) (sym is_first) rest,
+            ))
+            (λ differ. (
+              row,
+              record {
+                there = one.others k differ ∙ live.there;
+                of_task = live.of_task;
+                live = inl (⊎_elim (λ e. e) (λ e. absurd (none-some k (sym idle ∙ e))) live.live);
+              },
+              λ j rest. rest,
+            ))
             (cases_eq k n)
 
     -- what a frame names, and what its activation is behind, was accepted
@@ -335,10 +342,22 @@ module _ (p : Program) (formed : IsWellFormed p) (valid : IsValid p) (c : Column
           (n, runs.row, record { there = snoc_old r.journal.rows row n runs.row runs.there; of_task = runs.of_task; live = inr runs.running }, asked.of_rest);
       to_come = now.to_come;
       add_up = record {
-        tasks = omega (arith, now.add_up.tasks, new_task_counts r.journal.rows row refl, total-snoc (λ (x : Counts). x.tasks) now.left asked.first,
-            total_put (λ (x : Counts). x.tasks) (now.left ++ asked.first ∷ []) t k asked.rest was, asked.of_tasks);
-        activations = omega (arith, now.add_up.activations, length_snoc r.journal.rows row, total-snoc (λ (x : Counts). x.activations) now.left asked.first,
-            total_put (λ (x : Counts). x.activations) (now.left ++ asked.first ∷ []) t k asked.rest was, asked.of_activations);
+        tasks = omega (
+          arith,
+          now.add_up.tasks,
+          new_task_counts r.journal.rows row refl,
+          total-snoc (λ (x : Counts). x.tasks) now.left asked.first,
+          total_put (λ (x : Counts). x.tasks) (now.left ++ asked.first ∷ []) t k asked.rest was,
+          asked.of_tasks,
+        );
+        activations = omega (
+          arith,
+          now.add_up.activations,
+          length_snoc r.journal.rows row,
+          total-snoc (λ (x : Counts). x.activations) now.left asked.first,
+          total_put (λ (x : Counts). x.activations) (now.left ++ asked.first ∷ []) t k asked.rest was,
+          asked.of_activations,
+        );
       };
       uncut = λ u tag e. now.uncut u tag (sym (outcome_snoc r.outcomes u) ∙ e);
       no_null = now.no_null;
@@ -394,10 +413,22 @@ module _ (p : Program) (formed : IsWellFormed p) (valid : IsValid p) (c : Column
           (subst (λ x. BodiesCount p c rows' None calls' (put_number (put_number (r.bodies ++ None ∷ []) t None) t (Some to)) x) (put_twice (now.left ++ no_counts ∷ []) t no_counts renewed.rest) again);
       to_come = now.to_come;
       add_up = record {
-        tasks = omega (arith, now.add_up.tasks, old_task_counts r.journal.rows row lies.1, total-snoc (λ (x : Counts). x.tasks) now.left no_counts,
-            total_put (λ (x : Counts). x.tasks) (now.left ++ no_counts ∷ []) t k renewed.rest was, renewed.of_tasks);
-        activations = omega (arith, now.add_up.activations, length_snoc r.journal.rows row, total-snoc (λ (x : Counts). x.activations) now.left no_counts,
-            total_put (λ (x : Counts). x.activations) (now.left ++ no_counts ∷ []) t k renewed.rest was, renewed.of_activations);
+        tasks = omega (
+          arith,
+          now.add_up.tasks,
+          old_task_counts r.journal.rows row lies.1,
+          total-snoc (λ (x : Counts). x.tasks) now.left no_counts,
+          total_put (λ (x : Counts). x.tasks) (now.left ++ no_counts ∷ []) t k renewed.rest was,
+          renewed.of_tasks,
+        );
+        activations = omega (
+          arith,
+          now.add_up.activations,
+          length_snoc r.journal.rows row,
+          total-snoc (λ (x : Counts). x.activations) now.left no_counts,
+          total_put (λ (x : Counts). x.activations) (now.left ++ no_counts ∷ []) t k renewed.rest was,
+          renewed.of_activations,
+        );
       };
       uncut = λ u tag e. now.uncut u tag (sym (outcome_snoc r.outcomes u) ∙ e);
       no_null = no_null;
@@ -474,24 +505,28 @@ module _ (p : Program) (formed : IsWellFormed p) (valid : IsValid p) (c : Column
           let names = again_names p formed valid c r runs.row.after q (running_stands p r held tasks t n (OfKind q) runs).seat line there target waits e in
           let has = has_later p c r.calls (Respawn t after ∷ []) runs.row.after (after_names r held calls n runs.row runs.there) (waited t n (OfKind q) runs) in
           let grown = (grown-counts p c r.calls (Respawn t after) runs.row.after q k (all_named t n q runs)).0 (frame_here t n q runs) in
-          let (j, rest, sum) = (accepted_respawns-counts p c (jumps_ahead p formed) (r.calls ++ Respawn t after ∷ []) runs.row.after q target waits k (line, there, e) names has).0 grown in
-          (record {
-            rest = j;
-            of_rest = (next_number r.journal, further_row t after, record { there = snoc_new r.journal.rows (further_row t after); of_task = refl; live = inl refl }, rest);
-            of_tasks = omega (arith, ap (λ (x : Counts). x.tasks) sum);
-            of_activations = omega (arith, ap (λ (x : Counts). x.activations) sum);
-          }, now.no_null)
+          let (j, rest, sum) = (accepted_respawns-counts p c (jumps_ahead p formed) (r.calls ++ Respawn t after ∷ []) runs.row.after q target waits k (line, there, e) names has).0 grown in (
+            record {
+              rest = j;
+              of_rest = (next_number r.journal, further_row t after, record { there = snoc_new r.journal.rows (further_row t after); of_task = refl; live = inl refl }, rest);
+              of_tasks = omega (arith, ap (λ (x : Counts). x.tasks) sum);
+              of_activations = omega (arith, ap (λ (x : Counts). x.activations) sum);
+            },
+            now.no_null,
+          )
       renews t n _ _ _ _ _ runs (Renews.retries q request to how none) = absurd (has_block t n to q request true runs how none)
       renews t n _ _ _ _ _ runs (Renews.behind members next u e) =
           let here = stands_here t n (OfMembers members next) runs in
           let within = slice_get_within members next u e in
-          let (more, is_more) = one_less (left_here t n (OfMembers members next) runs).0.activations (omega (arith, here.1, within)) in
-          (record {
-            rest = record { tasks = 0; activations = more };
-            of_rest = (refl, omega (arith, is_more, here.1));
-            of_tasks = here.0;
-            of_activations = is_more;
-          }, now.no_null)
+          let (more, is_more) = one_less (left_here t n (OfMembers members next) runs).0.activations (omega (arith, here.1, within)) in (
+            record {
+              rest = record { tasks = 0; activations = more };
+              of_rest = (refl, omega (arith, is_more, here.1));
+              of_tasks = here.0;
+              of_activations = is_more;
+            },
+            now.no_null,
+          )
 
       -- no task is refused
       none_refused : (limit : ℕ) → all.activations ≤ limit → r.journal.limit ≡ limit → (t n : ℕ) (body : Body) (tag : CutTag) (notes : Notes) → RunsAt r t n body → Refuses p c units r n body tag notes → ⊥

@@ -155,10 +155,12 @@ module _ (p : Program) (formed : IsWellFormed p) (c : Columns) (units : ℕ) (al
 
         stays : (u m : ℕ) (other : ActivationRow) (q : FrameOf ℕ) → found r.bodies u ≡ Some (OfKind q) → IsLiveAt r.journal.rows r.running u m other
             → (row' : ActivationRow) × IsLiveAt rows' r.running u m row' × ((x : Counts) → RestCounts p c r.calls other.after q x → RestCounts p c calls' row'.after q x)
-        stays u m other q has live =
-            (other, record { there = snoc_old r.journal.rows row m other live.there; of_task = live.of_task; live = live.live },
-            λ x rest. (grown-counts p c r.calls (OfCall (root_call (own_tasks r) root) (root_waits (own_tasks r) root.behind)) other.after q x
-            (frame_names r held u q has, after_names r held calls m other live.there)).0 rest)
+        stays u m other q has live = (
+          other,
+          record { there = snoc_old r.journal.rows row m other live.there; of_task = live.of_task; live = live.live },
+          λ x rest. (grown-counts p c r.calls (OfCall (root_call (own_tasks r) root) (root_waits (own_tasks r) root.behind)) other.after q x
+              (frame_names r held u q has, after_names r held calls m other live.there)).0 rest,
+        )
 
     -- no root is refused
     none_refused_root : (limit : ℕ) → all.activations ≤ limit → r.journal.limit ≡ limit → HasRoomLeft p units all r → (tag : CutTag) (notes : Notes) → first_taskless r.roots (roots_named root) ≡ None
