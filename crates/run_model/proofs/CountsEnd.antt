@@ -94,52 +94,53 @@ made_at f (x ∷ xs) zero y e = (x, refl, same_Some (f x) y e)
 made_at f (x ∷ xs) (suc at) y e = made_at f xs at y e
 
 -- where nothing is under way or to come, all was accepted that is counted
-module _ (p : Program) (c : Columns) (plan : RunPlan) (all : Counts) (r : Run) (now : HeldCounts p c plan all r) (quiet : IsQuiet r) (all_asked : length r.roots ≡ length p.roots) where
+module _ (p : Program) (c : Columns) (plan : RunPlan) (all : Counts) (r : Run) (run : RunStands p plan.limit r) (counts : CountsStand p c r all) (quiet : IsQuiet r) (all_asked : length r.roots ≡ length p.roots) where
   -- of no number anything is left
-  none_left : (t : ℕ) (k : Counts) → Rattle.record_core.specs.Numbers.by_number now.counts.left t ≡ Some k → k ≡ no_counts
-  none_left t k e = subst (λ body. BodyCounts p c r.journal.rows r.running r.calls t body k) (no_bodies r now.run.numbers now.run.rank quiet t) (now.counts.bodies_count t k e)
+  none_left : (t : ℕ) (k : Counts) → Rattle.record_core.specs.Numbers.by_number counts.left t ≡ Some k → k ≡ no_counts
+  none_left t k e = subst (λ body. BodyCounts p c r.journal.rows r.running r.calls t body k) (no_bodies r run.numbers run.rank quiet t) (counts.bodies_count t k e)
 
   -- and no root is to come
-  no_root_left : no_counts ≡ now.counts.roots_left
-  no_root_left = (none-left p c (length r.roots) now.counts.roots_left (omega (arith, all_asked))).0 now.counts.to_come
+  no_root_left : no_counts ≡ counts.roots_left
+  no_root_left = (none-left p c (length r.roots) counts.roots_left (omega (arith, all_asked))).0 counts.to_come
 
   -- so all tasks were accepted
   all_tasks : task_count r.journal.rows ≡ all.tasks
   all_tasks =
-      let none = total_none (λ (k : Counts). k.tasks) now.counts.left (λ at k e. ap (λ (x : Counts). x.tasks) (none_left (suc at) k e)) in
-      omega (arith, now.counts.add_up.tasks, none, ap (λ (x : Counts). x.tasks) no_root_left)
+      let none = total_none (λ (k : Counts). k.tasks) counts.left (λ at k e. ap (λ (x : Counts). x.tasks) (none_left (suc at) k e)) in
+      omega (arith, counts.add_up.tasks, none, ap (λ (x : Counts). x.tasks) no_root_left)
 
   -- and all activations
   all_activations : length r.journal.rows ≡ all.activations
   all_activations =
-      let none = total_none (λ (k : Counts). k.activations) now.counts.left (λ at k e. ap (λ (x : Counts). x.activations) (none_left (suc at) k e)) in
-      omega (arith, now.counts.add_up.activations, none, ap (λ (x : Counts). x.activations) no_root_left)
+      let none = total_none (λ (k : Counts). k.activations) counts.left (λ at k e. ap (λ (x : Counts). x.activations) (none_left (suc at) k e)) in
+      omega (arith, counts.add_up.activations, none, ap (λ (x : Counts). x.activations) no_root_left)
 
   -- each root has a value
   word_valued : (at : ℕ) (word : RootWord) → slice_get r.roots at ≡ Some word → IsNamed word → IsValueEnd (root_end r word)
   word_valued at (Named t) e is =
-      let task = now.run.numbers.names.in_roots at t e in
-      let (outcome, ended) = has_some (found r.outcomes t) ((now.run.numbers.live.has_outcome t).1 (all_finish r now.run.numbers now.run.rank quiet t task)) in
+      let task = run.numbers.names.in_roots at t e in
+      let (outcome, ended) = has_some (found r.outcomes t) ((run.numbers.live.has_outcome t).1 (all_finish r run.numbers run.rank quiet t task)) in
       subst (λ o. IsValueEnd (end_at t o)) (sym ended) (by t outcome ended)
     where
       by : (t : ℕ) (outcome : Outcome) → found r.outcomes t ≡ Some outcome → IsValueEnd (end_at t (Some outcome))
       by t (Gave v) ended = tt
-      by t (WasCut tag) ended = absurd (now.counts.uncut t tag ended)
+      by t (WasCut tag) ended = absurd (counts.uncut t tag ended)
   word_valued at (Refused tag) e is = absurd is
   word_valued at (Skipped from tag) e is = absurd is
 
   -- the end is complete
-  complete : IsComplete (end_seen plan r) all
+  pub complete : IsComplete (end_seen plan r) all
   complete = record {
-    values = λ at end e. let (word, there, is_end) = made_at (root_end r) r.roots at end e in subst IsValueEnd is_end (word_valued at word there (now.counts.named at word there));
+    values = λ at end e. let (word, there, is_end) = made_at (root_end r) r.roots at end e in subst IsValueEnd is_end (word_valued at word there (counts.named at word there));
     activations = all_activations;
     tasks = all_tasks;
-    nulls = now.counts.no_null;
+    nulls = counts.no_null;
   }
 
 -- so is the end of each run of a valid program
 pub ends_complete : (p : Program) (c : Columns) (plan : RunPlan) (end : Run) → IsWellFormed p → IsValid p → IsGeometry plan.superblocks plan.units → OneThreadRun p c plan end
     → EndComplete p c plan (end_seen plan end)
 ends_complete p c plan end formed valid geometry run all counted fits suffices =
-    complete p c plan all end (subst (HeldCounts p c plan all) run.reached (counts_always p formed valid c plan geometry all counted fits suffices run.taken)) (end_quiet p c plan end run)
+    let now = subst (HeldCounts p c plan all) run.reached (counts_always p formed valid c plan geometry all counted fits suffices run.taken) in
+    complete p c plan all end now.run now.counts (end_quiet p c plan end run)
     (ap (λ (r : Run). length r.roots) (sym run.reached) ∙ root_count p c plan run.taken)

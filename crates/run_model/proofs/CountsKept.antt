@@ -33,7 +33,7 @@ use Rattle.record_core.specs.declared.rows.Cause.TheVariants as cause
 use Rattle.record_core.specs.declared.rows.CutTag.{CutTag}
 use Rattle.run_model.specs.State.{Body, Outcome, Gave, WasCut, Run, Queues, next_queued}
 use Rattle.run_model.specs.Placing.{pool_of, placed}
-use Rattle.run_model.specs.Step.{Request, tasks_named, call_request, all_request, asked_priority, has_number, arrives, waits_or_queues, accepts, with_body, completes}
+use Rattle.run_model.specs.Step.{Request, tasks_named, call_request, all_request, asked_priority, has_number, arrives, waits_or_queues, accepts, with_body, completes, is_refused}
 use Rattle.run_model.specs.Move.{Notes, with_notes, RunsAt, Goes, Asks, Answers, Renews, Refuses, Move, begins}
 use Rattle.run_model.proofs.ByNumber.{length_put, length_snoc, member_at, snoc_new, snoc_old, found_put, found_put_other}
 use Rattle.run_model.proofs.NumbersInvariant.{NumbersStand, IsLiveAt}
@@ -106,6 +106,15 @@ counts_arrives p c all r n (Some u) now = by (found r.outcomes u)
     by : (o : Option Outcome) → CountsStand p c (waits_or_queues o r n u) all
     by None = now
     by (Some outcome) = now
+
+-- an arrival notes no null
+pub nulls_arrives : (r : Run) (n : ℕ) (after : Option ℕ) → (arrives r n after).nulls ≡ r.nulls
+nulls_arrives r n None = refl
+nulls_arrives r n (Some u) = by (found r.outcomes u)
+  where
+    by : (o : Option Outcome) → (waits_or_queues o r n u).nulls ≡ r.nulls
+    by None = refl
+    by (Some outcome) = refl
 
 -- a request is for a block of a class of its program
 pub may_ask : (p : Program) → IsWellFormed p → IsValid p → (c : Columns) (r : Run) (after : Option ℕ) (q : FrameOf ℕ) → IsSeated p r after true q → (request : Request) (to : ℕ) (retry : Bool) → Asks p c q request to retry → MayAsk p request.class
@@ -473,6 +482,53 @@ module _ (p : Program) (formed : IsWellFormed p) (valid : IsValid p) (c : Column
         again = bodies_put p c rows' None calls' (put_number (r.bodies ++ None ∷ []) t None) (put_number (now.left ++ no_counts ∷ []) t no_counts) t (Some to) renewed.rest lies.0
             (omega (arith, many, length_put (r.bodies ++ None ∷ []) t None)) out renewed.of_rest
 
+    -- a task that is renewed has an activation left for it
+    renews : (units t n : ℕ) (body to : Body) (after : Option ℕ) (priority : Priority) (notes : Notes) (runs : RunsAt r t n body) → Renews p c units r n body to after priority notes → notes.nulls ≡ 0
+        → Renewed t n body runs to after
+    renews units t n _ _ _ _ _ runs (Renews.again q line target waits there e) none =
+        let after = task_waited q waits in
+        let k = (left_here t n (OfKind q) runs).0 in
+        let names = again_names p formed valid c r runs.row.after q (running_stands p r held tasks t n (OfKind q) runs).seat line there target waits e in
+        let has = has_later p c r.calls (Respawn t after ∷ []) runs.row.after (after_names r held calls n runs.row runs.there) (waited t n (OfKind q) runs) in
+        let grown = (grown-counts p c r.calls (Respawn t after) runs.row.after q k (all_named t n q runs)).0 (frame_here t n q runs) in
+        let (j, rest, sum) = (accepted_respawns-counts p c (jumps_ahead p formed) (r.calls ++ Respawn t after ∷ []) runs.row.after q target waits k (line, there, e) names has).0 grown in
+        record {
+          rest = j;
+          of_rest = (next_number r.journal, further_row t after, record { there = snoc_new r.journal.rows (further_row t after); of_task = refl; live = inl refl }, rest);
+          of_tasks = omega (arith, ap (λ (x : Counts). x.tasks) sum);
+          of_activations = omega (arith, ap (λ (x : Counts). x.activations) sum);
+        }
+    renews units t n _ _ _ _ _ runs (Renews.retries q request to how placed) none = absurd (omega (arith, none))
+    renews units t n _ _ _ _ _ runs (Renews.behind members next u e) none =
+        let here = stands_here t n (OfMembers members next) runs in
+        let within = slice_get_within members next u e in
+        let (more, is_more) = one_less (left_here t n (OfMembers members next) runs).0.activations (omega (arith, here.1, within)) in
+        record {
+          rest = record { tasks = 0; activations = more };
+          of_rest = (refl, omega (arith, is_more, here.1));
+          of_tasks = here.0;
+          of_activations = is_more;
+        }
+
+    -- a move that refuses nothing, and notes no null, keeps what stands of counts
+    pub counts_kept : (units : ℕ) (s : Run)
+        → ((t n : ℕ) (body : Body) (tag : CutTag) (notes : Notes) → RunsAt r t n body → Refuses p c units r n body tag notes → s ≡ is_refused (with_notes r notes) t tag → ⊥)
+        → ((t n : ℕ) (body to : Body) (after : Option ℕ) (priority : Priority) (notes : Notes) → RunsAt r t n body → Renews p c units r n body to after priority notes → s.nulls ≡ notes.nulls → notes.nulls ≡ 0)
+        → Move p c units r s → CountsStand p c s all
+    counts_kept units _ unrefused unnoted (Move.goes_on t n q next runs goes) = goes_counts t n q next runs goes
+    counts_kept units _ unrefused unnoted (Move.spawned t n to q request retry block runs asks placed some) =
+        counts_arrives p c all (with_body (accepts units r request block) t (OfKind (set_future q to (Some (next_number r.journal))))) (next_number r.journal) request.after
+        (spawns_counts units t n to q request retry block runs asks)
+    counts_kept units _ unrefused unnoted (Move.respawned t n body to after priority notes runs how some) =
+        let none = unnoted t n body to after priority notes runs how (nulls_arrives (renewed_run (with_notes r notes) t to after priority) (next_number r.journal) after) in
+        counts_arrives p c all (renewed_run (with_notes r notes) t to after priority) (next_number r.journal) after
+        (renews_counts t n body to after priority runs notes none (renews units t n body to after priority notes runs how none))
+    counts_kept units _ unrefused unnoted (Move.gave t n body v runs answers) =
+        let none = answers_none t n body v runs answers in ends_counts t n body runs v cause.Clear none.0 none.1
+    counts_kept units _ unrefused unnoted (Move.refused t n body tag notes runs refuses) = absurd (unrefused t n body tag notes runs refuses refl)
+    counts_kept units _ unrefused unnoted (Move.started n queues idle next uncut) = begins_counts n queues idle next
+    counts_kept units _ unrefused unnoted (Move.cut_at_start n queues row u tag idle next there after cut) = absurd (now.uncut u tag cut)
+
     -- no more is left of one task than of all
     some_left : (t n : ℕ) (body : Body) (runs : RunsAt r t n body)
         → ((left_here t n body runs).0.tasks ≤ tasks_left now.left) × ((left_here t n body runs).0.activations ≤ activations_left now.left)
@@ -496,37 +552,11 @@ module _ (p : Program) (formed : IsWellFormed p) (valid : IsValid p) (c : Column
           room request.class (may_ask p formed valid c r runs.row.after q (running_stands p r held tasks t n (OfKind q) runs).seat request to retry asks)
           (omega (arith, asked.of_tasks, (some_left t n (OfKind q) runs).0, now.add_up.tasks)) none
 
-      -- a task that is renewed has an activation left for it
-      renews : (t n : ℕ) (body to : Body) (after : Option ℕ) (priority : Priority) (notes : Notes) (runs : RunsAt r t n body) → Renews p c units r n body to after priority notes
-          → Renewed t n body runs to after × (notes.nulls ≡ 0)
-      renews t n _ _ _ _ _ runs (Renews.again q line target waits there e) =
-          let after = task_waited q waits in
-          let k = (left_here t n (OfKind q) runs).0 in
-          let names = again_names p formed valid c r runs.row.after q (running_stands p r held tasks t n (OfKind q) runs).seat line there target waits e in
-          let has = has_later p c r.calls (Respawn t after ∷ []) runs.row.after (after_names r held calls n runs.row runs.there) (waited t n (OfKind q) runs) in
-          let grown = (grown-counts p c r.calls (Respawn t after) runs.row.after q k (all_named t n q runs)).0 (frame_here t n q runs) in
-          let (j, rest, sum) = (accepted_respawns-counts p c (jumps_ahead p formed) (r.calls ++ Respawn t after ∷ []) runs.row.after q target waits k (line, there, e) names has).0 grown in (
-            record {
-              rest = j;
-              of_rest = (next_number r.journal, further_row t after, record { there = snoc_new r.journal.rows (further_row t after); of_task = refl; live = inl refl }, rest);
-              of_tasks = omega (arith, ap (λ (x : Counts). x.tasks) sum);
-              of_activations = omega (arith, ap (λ (x : Counts). x.activations) sum);
-            },
-            now.no_null,
-          )
-      renews t n _ _ _ _ _ runs (Renews.retries q request to how none) = absurd (has_block t n to q request true runs how none)
-      renews t n _ _ _ _ _ runs (Renews.behind members next u e) =
-          let here = stands_here t n (OfMembers members next) runs in
-          let within = slice_get_within members next u e in
-          let (more, is_more) = one_less (left_here t n (OfMembers members next) runs).0.activations (omega (arith, here.1, within)) in (
-            record {
-              rest = record { tasks = 0; activations = more };
-              of_rest = (refl, omega (arith, is_more, here.1));
-              of_tasks = here.0;
-              of_activations = is_more;
-            },
-            now.no_null,
-          )
+      -- no null is noted beside a renewal
+      none_noted : (t n : ℕ) (body to : Body) (after : Option ℕ) (priority : Priority) (notes : Notes) → RunsAt r t n body → Renews p c units r n body to after priority notes → notes.nulls ≡ 0
+      none_noted t n _ _ _ _ _ runs (Renews.again q line target waits there e) = now.no_null
+      none_noted t n _ _ _ _ _ runs (Renews.retries q request to how none) = absurd (has_block t n to q request true runs how none)
+      none_noted t n _ _ _ _ _ runs (Renews.behind members next u e) = now.no_null
 
       -- no task is refused
       none_refused : (limit : ℕ) → all.activations ≤ limit → r.journal.limit ≡ limit → (t n : ℕ) (body : Body) (tag : CutTag) (notes : Notes) → RunsAt r t n body → Refuses p c units r n body tag notes → ⊥
@@ -535,21 +565,11 @@ module _ (p : Program) (formed : IsWellFormed p) (valid : IsValid p) (c : Column
           let asked = asks_for t n q runs request to retry how in
           has_left limit fits same t n (OfKind q) runs (omega (arith, asked.of_activations)) none
       none_refused limit fits same t n _ _ _ runs (Refuses.no_renewal body to after priority notes how none) =
-          let renewed = (renews t n body to after priority notes runs how).0 in
+          let renewed = renews units t n body to after priority notes runs how (none_noted t n body to after priority notes runs how) in
           has_left limit fits same t n body runs (omega (arith, renewed.of_activations)) none
 
       -- a move keeps what stands of counts
       pub counts_step : (limit : ℕ) → all.activations ≤ limit → r.journal.limit ≡ limit → (s : Run) → Move p c units r s → CountsStand p c s all
-      counts_step limit fits same _ (Move.goes_on t n q next runs goes) = goes_counts t n q next runs goes
-      counts_step limit fits same _ (Move.spawned t n to q request retry block runs asks placed some) =
-          counts_arrives p c all (with_body (accepts units r request block) t (OfKind (set_future q to (Some (next_number r.journal))))) (next_number r.journal) request.after
-          (spawns_counts units t n to q request retry block runs asks)
-      counts_step limit fits same _ (Move.respawned t n body to after priority notes runs how some) =
-          let renewed = renews t n body to after priority notes runs how in
-          counts_arrives p c all (renewed_run (with_notes r notes) t to after priority) (next_number r.journal) after
-          (renews_counts t n body to after priority runs notes renewed.1 renewed.0)
-      counts_step limit fits same _ (Move.gave t n body v runs answers) =
-          let none = answers_none t n body v runs answers in ends_counts t n body runs v cause.Clear none.0 none.1
-      counts_step limit fits same _ (Move.refused t n body tag notes runs refuses) = absurd (none_refused limit fits same t n body tag notes runs refuses)
-      counts_step limit fits same _ (Move.started n queues idle next uncut) = begins_counts n queues idle next
-      counts_step limit fits same _ (Move.cut_at_start n queues row u tag idle next there after cut) = absurd (now.uncut u tag cut)
+      counts_step limit fits same s move =
+          counts_kept units s (λ t n body tag notes runs refuses e. none_refused limit fits same t n body tag notes runs refuses)
+          (λ t n body to after priority notes runs how e. none_noted t n body to after priority notes runs how) move

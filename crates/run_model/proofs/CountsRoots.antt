@@ -29,7 +29,7 @@ use Rattle.record_core.specs.declared.rows.ActivationRow.{ActivationRow}
 use Rattle.record_core.specs.declared.rows.CutTag.{CutTag}
 use Rattle.run_model.specs.State.{WasCut, RootWord, Named, Refused, Skipped, Run}
 use Rattle.run_model.specs.Step.{own_tasks, taskless, first_taskless, accepts, with_root, root_request, at_first}
-use Rattle.run_model.specs.Move.{Notes, RefusesRoot, RootMove}
+use Rattle.run_model.specs.Move.{Notes, with_notes, RefusesRoot, RootMove}
 use Rattle.run_model.proofs.ByNumber.{length_snoc, snoc_new, snoc_old, none_of_empty}
 use Rattle.run_model.proofs.NumbersInvariant.{NumbersStand, IsLiveAt}
 use Rattle.run_model.proofs.CallsInvariant.{CallsStand}
@@ -174,9 +174,14 @@ module _ (p : Program) (formed : IsWellFormed p) (c : Columns) (units : ℕ) (al
         let full = ltb-false (length r.journal.rows) r.journal.limit none in
         absurd (omega (arith, full, same, fits, now.add_up.activations, counted.of_activations))
 
-    -- asking for a root keeps what stands of counts
-    pub counts_asked : (limit : ℕ) → all.activations ≤ limit → r.journal.limit ≡ limit → HasRoomLeft p units all r → (s : Run) → RootMove p units r root s → CountsStand p c s all
-    counts_asked limit fits same room _ (RootMove.named block free placed some) =
+    -- asking for a root that is not refused keeps what stands of counts
+    pub root_kept : (s : Run) → ((tag : CutTag) (notes : Notes) → first_taskless r.roots (roots_named root) ≡ None → RefusesRoot p units r root tag notes → s ≡ with_root (with_notes r notes) (Refused tag) → ⊥)
+        → RootMove p units r root s → CountsStand p c s all
+    root_kept _ unrefused (RootMove.named block free placed some) =
         counts_arrives p c all (with_root (accepts units r (root_request p r root) block) (Named (next_number r.journal))) (next_number r.journal) (root_request p r root).after (named_counts block free)
-    counts_asked limit fits same room _ (RootMove.refused tag notes free how) = absurd (none_refused_root limit fits same room tag notes free how)
-    counts_asked limit fits same room _ (RootMove.skipped first e) = absurd (none-some first (sym (none_taskless r.roots (roots_named root) now.named) ∙ e))
+    root_kept _ unrefused (RootMove.refused tag notes free how) = absurd (unrefused tag notes free how refl)
+    root_kept _ unrefused (RootMove.skipped first e) = absurd (none-some first (sym (none_taskless r.roots (roots_named root) now.named) ∙ e))
+
+    -- so it is where the pool has room left
+    pub counts_asked : (limit : ℕ) → all.activations ≤ limit → r.journal.limit ≡ limit → HasRoomLeft p units all r → (s : Run) → RootMove p units r root s → CountsStand p c s all
+    counts_asked limit fits same room s move = root_kept s (λ tag notes free how e. none_refused_root limit fits same room tag notes free how) move

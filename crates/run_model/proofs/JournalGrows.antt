@@ -21,7 +21,7 @@ use Rattle.run_model.proofs.NumbersParts.{held_starts, started_runs}
 use Rattle.run_model.proofs.JournalKept.{under_way, may_begin, refusal_may}
 use Rattle.run_model.proofs.RunStands.{RunStands, run_move}
 
-grows_same : (j : JournalState) → GrowsFrom j j
+pub grows_same : (j : JournalState) → GrowsFrom j j
 grows_same j = record { rows = λ n row there. (row.start, there); stamps = λ e s at. at; causes = λ t f at. refl }
 
 grows_on : (i j k : JournalState) → GrowsFrom i j → GrowsFrom j k → GrowsFrom i k
@@ -31,7 +31,7 @@ grows_on i j k first second = record {
   causes = λ t f at. second.causes t f (first.stamps (Rattle.record_core.specs.Journal.Finishes t) f at) ∙ first.causes t f at;
 }
 
-arrives_grows : (j : JournalState) (r : Run) (n : ℕ) (after : Option ℕ) → GrowsFrom j r.journal → GrowsFrom j (arrives r n after).journal
+pub arrives_grows : (j : JournalState) (r : Run) (n : ℕ) (after : Option ℕ) → GrowsFrom j r.journal → GrowsFrom j (arrives r n after).journal
 arrives_grows j r n None now = now
 arrives_grows j r n (Some u) now = by (found r.outcomes u)
   where
@@ -40,7 +40,7 @@ arrives_grows j r n (Some u) now = by (found r.outcomes u)
     by (Some outcome) = now
 
 module _ (p : Program) (c : Columns) (limit units : ℕ) where
-  move_grows : (r s : Run) → RunStands p limit r → Move p c units r s → GrowsFrom r.journal s.journal
+  pub move_grows : (r s : Run) → RunStands p limit r → Move p c units r s → GrowsFrom r.journal s.journal
   move_grows r _ now (Move.goes_on t n q next runs goes) = grows_same r.journal
   move_grows r _ now (Move.spawned t n to q request retry block runs asks placed some) =
       arrives_grows r.journal (with_body (accepts units r request block) t (OfKind (set_future q to (Some (next_number r.journal))))) (next_number r.journal) request.after (accept-tells r.journal None request.after).grows

@@ -63,3 +63,4 @@ pub mod CountsKept
 pub mod CountsRoots
 pub mod CountsRoom
 pub mod CountsEnd
+pub mod CountsUnrefused

@@ -1,5 +1,5 @@
 -- The laws of the run on one thread.
-use Rattle.std.specs.Prelude.{◌≡◌, ℕ, ◌+◌, ◌*◌, ◌<◌, ◌≤◌, Some, None, IsSome, MatchOption, length, slice_get}
+use Rattle.std.specs.Prelude.{◌≡◌, ◌≢◌, ℕ, ◌+◌, ◌*◌, ◌<◌, ◌≤◌, Some, None, IsSome, MatchOption, length, slice_get}
 use Rattle.task_syntax.specs.Places.{Each, EachAt}
 use Rattle.task_syntax.specs.Form.{IsWellFormed}
 use Rattle.task_syntax.specs.Valid.{IsValid}
@@ -8,13 +8,14 @@ use Rattle.task_syntax.specs.declared.columns.Columns.{Columns}
 use Rattle.kt_words.specs.Ranges.{IsGeometry}
 use Rattle.pool_core.specs.Blocks.{BlockState, HasUnit}
 use Rattle.pool_core.specs.Pool.{PoolState, Gives, HasNoRoom, IsSound}
-use Rattle.task_meaning.specs.Meant.{future_at}
+use Rattle.task_meaning.specs.Meant.{Counts, future_at}
+use Rattle.task_meaning.specs.Roots.{RootsCount}
 use Rattle.frame_code.specs.Words.{OfKind, OfMembers}
 use Rattle.record_core.specs.Numbers.{by_number, found, HasTask}
 use Rattle.record_core.specs.Journal.{AreOfTasks, AreStampedOnce, AreInOrder, CausesLead, Leads, task_count, finish_of, cause_of}
 use Rattle.record_core.specs.JournalLaws.{GrowsFrom}
 use Rattle.record_core.specs.EndSeen.{EndSeen, RunPlan}
-use Rattle.record_core.specs.EndSound.{EndSound, EndComplete, HasNoRetry, HasEvidence, AreOwn, IsCutAsNamed, null_ends, own_of_class}
+use Rattle.record_core.specs.EndSound.{EndSound, EndComplete, IsComplete, HasNoRetry, HasEvidence, AreOwn, IsCutAsNamed, null_ends, own_of_class}
 use Rattle.record_core.specs.EndFaithful.{EndFaithful}
 use Rattle.record_core.specs.declared.rows.ActivationRow.{ActivationRow}
 use Rattle.record_core.specs.declared.rows.Cause.TheVariants as cause
@@ -121,3 +122,15 @@ EndsAreSound = (p : Program) (c : Columns) (plan : RunPlan) (end : Run) → IsWe
 -- it is complete where the meaning has counts, these are within the limit, and the pool suffices
 abbrev pub EndsAreComplete : Type 0
 EndsAreComplete = (p : Program) (c : Columns) (plan : RunPlan) (end : Run) → IsWellFormed p → IsValid p → IsGeometry plan.superblocks plan.units → OneThreadRun p c plan end → EndComplete p c plan (end_seen plan end)
+
+-- at the end no null answer was counted, and no task and no root was refused at the limit
+pub record NothingRefused (e : EndSeen) : Type 0 where
+  pub no_null : e.nulls ≡ 0
+  pub no_task : (t : ℕ) → cause_of e.tasks t ≢ cause.Limit
+  pub no_root : (at : ℕ) → slice_get e.roots at ≢ Some (Cut Limit Host)
+
+-- where nothing was refused, each root has a value, and the run accepted exactly what the meaning counts, whatever the size of
+-- the pool and the limit are
+abbrev pub CountsWhereNothingIsRefused : Type 0
+CountsWhereNothingIsRefused = (p : Program) (c : Columns) (plan : RunPlan) (end : Run) (k : Counts) → IsWellFormed p → IsValid p → OneThreadRun p c plan end → RootsCount p c k
+    → NothingRefused (end_seen plan end) → IsComplete (end_seen plan end) k

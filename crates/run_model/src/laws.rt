@@ -1,4 +1,4 @@
-ghost use Rattle.run_model.specs.Laws.{BlocksAreApart, EndsAreComplete, EndsAreFaithful, EndsAreInOrder, EndsAreSound, EndsHaveEvidence, EndsHoldRoots, EndsSkipAsNamed, OneEnd, PlacesAsPoolsGive, PoolsAreSound, RunsEnd, StartsOnce};
+ghost use Rattle.run_model.specs.Laws.{BlocksAreApart, CountsWhereNothingIsRefused, EndsAreComplete, EndsAreFaithful, EndsAreInOrder, EndsAreSound, EndsHaveEvidence, EndsHoldRoots, EndsSkipAsNamed, OneEnd, PlacesAsPoolsGive, PoolsAreSound, RunsEnd, StartsOnce};
 ghost use Rattle.run_model.specs.Move.{RootsMove, StepsMove};
 ghost use Rattle.run_model.specs.RuleRuns.{RuleRuns};
 ghost use Rattle.run_model.specs.ExampleRuns.{ExampleRuns};
@@ -80,4 +80,10 @@ pub fn ends_are_sound()
 /// tasks and activations are accepted.
 pub fn ends_are_complete()
     ensures { EndsAreComplete }
+{}
+
+/// Where a run of a valid program, whose meaning has counts, refused nothing, so many tasks and
+/// activations are accepted, and each root has a value, whatever the size of the pool is.
+pub fn counts_where_nothing_is_refused()
+    ensures { CountsWhereNothingIsRefused }
 {}
