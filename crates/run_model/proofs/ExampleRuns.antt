@@ -2,7 +2,7 @@
 use Rattle.std.proofs.Common.{refl}
 use Rattle.task_syntax.specs.Columns.{no_columns}
 use Rattle.run_model.specs.WorkedRuns.{plan}
-use Rattle.run_model.specs.ExamplePrograms.{fib_two, fib_four, fib_retrying, wide, overflows, twice, prices, chain, three, nine, beside, drops, retries, empty, price_table}
+use Rattle.run_model.specs.ExamplePrograms.{fib_two, fib_four, fib_retrying, wide, overflows, twice, prices, chain, chain_hundred, grid_two, three, nine, beside, drops, retries, empty, price_table}
 use Rattle.run_model.specs.ExampleRuns.{ExampleRuns, fib_two_rows, fib_two_tasks, three_rows, three_tasks}
 use Rattle.run_model.proofs.WorkedLooks.{traced, told}
 
@@ -20,6 +20,8 @@ example_runs = record {
   twice_gathered = told twice no_columns (plan 256 512 1000000) 40 _ refl;
   prices_summed = told prices price_table (plan 256 512 1000000) 300 _ refl;
   chain_chained = told chain no_columns (plan 1 8 1000000) 100 _ refl;
+  chain_hundred_chained = told chain_hundred no_columns (plan 1 8 1000000) 3000 _ refl;
+  grid_summed = told grid_two no_columns (plan 1024 512 1000000) 1000 _ refl;
   nine_null = told nine no_columns (plan 1 8 8) 40 _ refl;
   nine_limited = told nine no_columns (plan 2 8 8) 40 _ refl;
   beside_null = told beside no_columns (plan 2 8 100) 40 _ refl;

@@ -219,6 +219,40 @@ chain = record {
   roots = root_of 1 (root_argument.Number 5 ∷ root_argument.Number 0 ∷ []) None Regular ∷ [];
 }
 
+-- the same chain, a hundred long
+abbrev pub chain_hundred : Program
+chain_hundred = record chain { roots = root_of 1 (root_argument.Number 100 ∷ root_argument.Number 0 ∷ []) None Regular ∷ [] }
+
+-- a grid of depth two: each task spawns four, of three priorities, and adds up what they give
+abbrev pub grid_two : Program
+grid_two = record {
+  kinds = kind_of 1 (sort.Number ∷ sort.Number ∷ sort.Future ∷ sort.Future ∷ sort.Future ∷ sort.Future ∷ sort.Future ∷ []) (
+      state_of [] []
+      (If Equal (Variable 0) (Literal 0) 8
+      ∷ Math op.Sub 1 (Variable 0) (Literal 1)
+      ∷ Spawn 2 0 (argument.Number (Variable 1) ∷ []) None High false
+      ∷ Spawn 3 0 (argument.Number (Variable 1) ∷ []) None Regular false
+      ∷ Spawn 4 0 (argument.Number (Variable 1) ∷ []) None Regular false
+      ∷ Spawn 5 0 (argument.Number (Variable 1) ∷ []) None Low false
+      ∷ All 6 (2 ∷ 3 ∷ 4 ∷ 5 ∷ []) Regular false
+      ∷ Again 1 (Some 6) Regular
+      ∷ Label []
+      ∷ Done (Literal 1)
+      ∷ [])
+      ∷ state_of (2 ∷ 3 ∷ 4 ∷ 5 ∷ []) (2 ∷ 3 ∷ 4 ∷ 5 ∷ [])
+      (Get 0 2
+      ∷ Get 1 3
+      ∷ Math op.Add 0 (Variable 0) (Variable 1)
+      ∷ Get 1 4
+      ∷ Math op.Add 0 (Variable 0) (Variable 1)
+      ∷ Get 1 5
+      ∷ Math op.Add 0 (Variable 0) (Variable 1)
+      ∷ Done (Variable 0)
+      ∷ [])
+      ∷ []) ∷ [];
+  roots = root_of 0 (root_argument.Number 2 ∷ []) None Regular ∷ [];
+}
+
 -- three spawns of three priorities
 abbrev pub three : Program
 three = record {

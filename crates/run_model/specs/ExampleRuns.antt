@@ -11,7 +11,7 @@ use Rattle.record_core.specs.declared.rows.RootEnd.TheVariants.{Value, Cut}
 use Rattle.record_core.specs.declared.rows.CutTag.TheVariants.{Null, Limit}
 use Rattle.record_core.specs.declared.rows.CutFrom.TheVariants.{Host, Root, Task}
 use Rattle.run_model.specs.WorkedRuns.{IsTracedSo, EndsSo, summary, plan, starts, finishes}
-use Rattle.run_model.specs.ExamplePrograms.{fib_two, fib_four, fib_retrying, wide, overflows, twice, prices, chain, three, nine, beside, drops, retries, empty, price_table}
+use Rattle.run_model.specs.ExamplePrograms.{fib_two, fib_four, fib_retrying, wide, overflows, twice, prices, chain, chain_hundred, grid_two, three, nine, beside, drops, retries, empty, price_table}
 
 abbrev pub fib_two_rows : List ActivationRow
 fib_two_rows =
@@ -66,6 +66,10 @@ pub record ExampleRuns : Type 0 where
       (summary (Value (Number 150) ∷ []) 23 14 0 (1 ∷ 0 ∷ 0 ∷ 0 ∷ []) None [])
   pub chain_chained : EndsSo chain no_columns (plan 1 8 1000000)
       (summary (Value (Number 15) ∷ []) 16 6 0 (1 ∷ 0 ∷ 0 ∷ 0 ∷ []) None [])
+  pub chain_hundred_chained : EndsSo chain_hundred no_columns (plan 1 8 1000000)
+      (summary (Value (Number 5050) ∷ []) 301 101 0 (1 ∷ 0 ∷ 0 ∷ 0 ∷ []) None [])
+  pub grid_summed : EndsSo grid_two no_columns (plan 1024 512 1000000)
+      (summary (Value (Number 16) ∷ []) 46 26 0 (1 ∷ 0 ∷ 0 ∷ 0 ∷ []) None [])
   pub nine_null : EndsSo nine no_columns (plan 1 8 8)
       (summary (Value (Number 1) ∷ Value (Number 1) ∷ Value (Number 1) ∷ Value (Number 1) ∷ Value (Number 1) ∷ Value (Number 1) ∷ Value (Number 1) ∷ Value (Number 1) ∷ Cut Null Host ∷ []) 8 8 1 (8 ∷ 0 ∷ 0 ∷ 0 ∷ []) (Some 0) ((0, 8) ∷ []))
   pub nine_limited : EndsSo nine no_columns (plan 2 8 8)
