@@ -2,7 +2,7 @@
 use Rattle.std.proofs.Common.{refl}
 use Rattle.task_syntax.specs.Columns.{no_columns}
 use Rattle.run_model.specs.WorkedRuns.{plan}
-use Rattle.run_model.specs.ExamplePrograms.{fib_two, fib_four, fib_retrying, wide, overflows, twice, prices, chain, chain_hundred, grid_two, three, nine, beside, drops, retries, empty, price_table}
+use Rattle.run_model.specs.ExamplePrograms.{fib_two, fib_four, fib_retrying, wide, skips, overflows, twice, prices, chain, chain_hundred, grid_two, three, nine, beside, drops, retries, empty, price_table}
 use Rattle.run_model.specs.ExampleRuns.{ExampleRuns, fib_two_rows, fib_two_tasks, three_rows, three_tasks}
 use Rattle.run_model.proofs.WorkedLooks.{traced, told}
 
@@ -16,6 +16,7 @@ example_runs = record {
   fib_four_null = told fib_four no_columns (plan 1 8 1000000) 200 _ refl;
   fib_retrying_limited = told fib_retrying no_columns (plan 1 8 13) 300 _ refl;
   wide_skipped = told wide no_columns (plan 1 8 1000000) 20 _ refl;
+  skips_in_order = told skips no_columns (plan 1 8 1000000) 20 _ refl;
   overflows_trapped = told overflows no_columns (plan 256 512 1000000) 20 _ refl;
   twice_gathered = told twice no_columns (plan 256 512 1000000) 40 _ refl;
   prices_summed = told prices price_table (plan 256 512 1000000) 300 _ refl;

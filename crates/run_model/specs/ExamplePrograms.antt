@@ -111,6 +111,31 @@ wide = record {
       ∷ root_of 2 (root_argument.Root 1 ∷ []) (Some 1) Regular ∷ [];
 }
 
+-- two roots without room, one that is passed the second of them and is behind the first, and one that is behind the first alone
+abbrev pub skips : Program
+skips = record {
+  kinds = kind_of 0 [] (
+      state_of [] []
+      (Done (Literal 1)
+      ∷ [])
+      ∷ [])
+      ∷ kind_of 8 (sort.Number ∷ sort.Number ∷ sort.Number ∷ sort.Number ∷ sort.Number ∷ sort.Number ∷ sort.Number ∷ sort.Number ∷ []) (
+      state_of [] []
+      (Done (Variable 0)
+      ∷ [])
+      ∷ [])
+      ∷ kind_of 1 (sort.Future ∷ []) (
+      state_of (0 ∷ []) []
+      (Done (Literal 1)
+      ∷ [])
+      ∷ []) ∷ [];
+  roots = root_of 0 [] None Regular
+      ∷ root_of 1 (root_argument.Number 3 ∷ []) None Regular
+      ∷ root_of 1 (root_argument.Number 4 ∷ []) None Regular
+      ∷ root_of 2 (root_argument.Root 2 ∷ []) (Some 1) Regular
+      ∷ root_of 0 [] (Some 1) Regular ∷ [];
+}
+
 -- a trap, and a task that reads it
 abbrev pub overflows : Program
 overflows = record {

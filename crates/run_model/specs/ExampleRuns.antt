@@ -11,7 +11,7 @@ use Rattle.record_core.specs.declared.rows.RootEnd.TheVariants.{Value, Cut}
 use Rattle.record_core.specs.declared.rows.CutTag.TheVariants.{Null, Limit}
 use Rattle.record_core.specs.declared.rows.CutFrom.TheVariants.{Host, Root, Task}
 use Rattle.run_model.specs.WorkedRuns.{IsTracedSo, EndsSo, summary, plan, starts, finishes}
-use Rattle.run_model.specs.ExamplePrograms.{fib_two, fib_four, fib_retrying, wide, overflows, twice, prices, chain, chain_hundred, grid_two, three, nine, beside, drops, retries, empty, price_table}
+use Rattle.run_model.specs.ExamplePrograms.{fib_two, fib_four, fib_retrying, wide, skips, overflows, twice, prices, chain, chain_hundred, grid_two, three, nine, beside, drops, retries, empty, price_table}
 
 abbrev pub fib_two_rows : List ActivationRow
 fib_two_rows =
@@ -58,6 +58,8 @@ pub record ExampleRuns : Type 0 where
       (summary (Cut Limit (Task 1) ∷ []) 13 8 4 (1 ∷ 0 ∷ 0 ∷ 0 ∷ []) (Some 0) ((0, 8) ∷ []))
   pub wide_skipped : EndsSo wide no_columns (plan 1 8 1000000)
       (summary (Value (Number 1) ∷ Cut Null Host ∷ Cut Null (Root 1) ∷ []) 1 1 1 (1 ∷ 0 ∷ 0 ∷ 0 ∷ []) (Some 1) ((0, 1) ∷ []))
+  pub skips_in_order : EndsSo skips no_columns (plan 1 8 1000000)
+      (summary (Value (Number 1) ∷ Cut Null Host ∷ Cut Null Host ∷ Cut Null (Root 2) ∷ Cut Null (Root 1) ∷ []) 1 1 2 (1 ∷ 0 ∷ 0 ∷ 0 ∷ []) (Some 1) ((0, 1) ∷ []))
   pub overflows_trapped : EndsSo overflows no_columns (plan 256 512 1000000)
       (summary (Value (Trapped Overflow) ∷ Value (Trapped Overflow) ∷ []) 2 2 0 (2 ∷ 0 ∷ 0 ∷ 0 ∷ []) None [])
   pub twice_gathered : EndsSo twice no_columns (plan 256 512 1000000)
