@@ -49,6 +49,47 @@ one_more_root p units r s root (RootMove.named block free placed some) =
 one_more_root p units r s root (RootMove.refused tag notes free how) = record { word = Refused tag; roots = refl; running = refl }
 one_more_root p units r s root (RootMove.skipped first e) = record { word = Skipped first.0 first.1; roots = refl; running = refl }
 
+-- the root at the front of what is left
+next_there : (roots done more : List RootLine) (root : RootLine) → roots ≡ done ++ root ∷ more → slice_get roots (length done) ≡ Some root
+next_there roots done more root e = rw e (front done)
+  where
+    front : (done : List RootLine) → slice_get (done ++ root ∷ more) (length done) ≡ Some root
+    front [] = refl
+    front (x ∷ xs) = front xs
+
+module _ (p : Program) (plan : RunPlan) (K : Run → Type 0) where
+  -- after some roots were asked for
+  pub record HasAsked (done : ℕ) (r : Run) : Type 0 where
+    pub kept : K r
+    pub idle : r.running ≡ None
+    pub roots : length r.roots ≡ done
+
+  module _ (root_keeps : (r s : Run) (root : RootLine) → IsNextRoot p r root → K r → RootMove p plan.units r root s → K s) where
+    one_asked : (done : ℕ) (r s : Run) (root : RootLine) → slice_get p.roots done ≡ Some root → HasAsked done r → RootMove p plan.units r root s → HasAsked (suc done) s
+    one_asked done r s root there now move =
+        let more = one_more_root p plan.units r s root move in record {
+          kept = root_keeps r s root (record { there = ap (slice_get p.roots) now.roots ∙ there; idle = now.idle }) now.kept move;
+          idle = more.running ∙ now.idle;
+          roots = ap length more.roots ∙ length_snoc r.roots more.word ∙ ap suc now.roots;
+        }
+
+    asks_front : (before more done left : List RootLine) (r : Run) → p.roots ≡ before ++ more → before ≡ done ++ left → HasAsked (length done) r → HasAsked (length before) (asks_roots p plan.units r left)
+    asks_front before more done [] r split e now = record { kept = now.kept; idle = now.idle; roots = now.roots ∙ sym (ap length (e ∙ append-nil done)) }
+    asks_front before more done (root ∷ left) r split e now =
+        let next = asks_root p plan.units r root (first_taskless r.roots (roots_named root)) in
+        let there = next_there p.roots done (left ++ more) root (split ∙ ap (λ (xs : List RootLine). xs ++ more) e ∙ append_assoc done (root ∷ left) more) in
+        asks_front before more (done ++ root ∷ []) left next split (e ∙ sym (append_assoc done (root ∷ []) left))
+        (rw (length_snoc done root) (one_asked (length done) r next root there now (root_moves p plan.units r root)))
+
+    -- once the roots at the front were asked for
+    pub asked_front : K (at_first plan) → (before more : List RootLine) → p.roots ≡ before ++ more → HasAsked (length before) (asks_roots p plan.units (at_first plan) before)
+    asked_front first before more split = asks_front before more [] before (at_first plan) split refl (record { kept = first; idle = refl; roots = refl })
+
+-- roots are asked for in their order
+pub asks_append : (p : Program) (units : ℕ) (r : Run) (xs ys : List RootLine) → asks_roots p units r (xs ++ ys) ≡ asks_roots p units (asks_roots p units r xs) ys
+asks_append p units r [] ys = refl
+asks_append p units r (root ∷ xs) ys = asks_append p units (asks_root p units r root (first_taskless r.roots (roots_named root))) xs ys
+
 module _ (p : Program) (c : Columns) (plan : RunPlan) (K : Run → Type 0) where
   -- each move of a root, and each move of a task, keeps K
   pub record IsKept : Type 0 where
@@ -56,38 +97,9 @@ module _ (p : Program) (c : Columns) (plan : RunPlan) (K : Run → Type 0) where
     pub root : (r s : Run) (root : RootLine) → IsNextRoot p r root → K r → RootMove p plan.units r root s → K s
     pub move : (r s : Run) → K r → Move p c plan.units r s → K s
 
-  -- after some roots were asked for
-  pub record HasAsked (done : ℕ) (r : Run) : Type 0 where
-    pub kept : K r
-    pub idle : r.running ≡ None
-    pub roots : length r.roots ≡ done
-
-  -- the root at the front of what is left
-  next_there : (roots done more : List RootLine) (root : RootLine) → roots ≡ done ++ root ∷ more → slice_get roots (length done) ≡ Some root
-  next_there roots done more root e = rw e (front done)
-    where
-      front : (done : List RootLine) → slice_get (done ++ root ∷ more) (length done) ≡ Some root
-      front [] = refl
-      front (x ∷ xs) = front xs
-
-  one_asked : (kept : IsKept) (done : ℕ) (r s : Run) (root : RootLine) → slice_get p.roots done ≡ Some root → HasAsked done r → RootMove p plan.units r root s → HasAsked (suc done) s
-  one_asked kept done r s root there now move =
-      let more = one_more_root p plan.units r s root move in record {
-        kept = kept.root r s root (record { there = ap (slice_get p.roots) now.roots ∙ there; idle = now.idle }) now.kept move;
-        idle = more.running ∙ now.idle;
-        roots = ap length more.roots ∙ length_snoc r.roots more.word ∙ ap suc now.roots;
-      }
-
-  asks_all : (kept : IsKept) (done more : List RootLine) (r : Run) → p.roots ≡ done ++ more → HasAsked (length done) r → HasAsked (length p.roots) (asks_roots p plan.units r more)
-  asks_all kept done [] r e now = record { kept = now.kept; idle = now.idle; roots = now.roots ∙ sym (ap length (e ∙ append-nil done)) }
-  asks_all kept done (root ∷ more) r e now =
-      let next = asks_root p plan.units r root (first_taskless r.roots (roots_named root)) in
-      asks_all kept (done ++ root ∷ []) more next (e ∙ sym (append_assoc done (root ∷ []) more))
-      (rw (length_snoc done root) (one_asked kept (length done) r next root (next_there p.roots done more root e) now (root_moves p plan.units r root)))
-
   -- once all roots were asked for
-  pub asked_all : IsKept → HasAsked (length p.roots) (asked p plan)
-  asked_all kept = asks_all kept [] p.roots (at_first plan) refl (record { kept = kept.first; idle = refl; roots = refl })
+  pub asked_all : IsKept → HasAsked p plan K (length p.roots) (asked p plan)
+  asked_all kept = asked_front p plan K kept.root kept.first p.roots [] (sym (append-nil p.roots))
 
   step_keeps : (kept : IsKept) (r s : Run) → K r → StaysOrMoves p c plan.units r s → K s
   step_keeps kept r s now (inl stays) = rw stays.0 now

@@ -1,8 +1,9 @@
 -- The laws of the run on one thread.
-use Rattle.std.specs.Prelude.{◌≡◌, ◌≢◌, ℕ, ◌+◌, ◌*◌, ◌<◌, ◌≤◌, Some, None, IsSome, MatchOption, length, slice_get}
+use Rattle.std.specs.Prelude.{◌≡◌, ◌≢◌, ℕ, ◌+◌, ◌*◌, ◌<◌, ◌≤◌, Some, None, List, [], ◌∷◌, ◌++◌, IsSome, MatchOption, length, slice_get}
 use Rattle.task_syntax.specs.Places.{Each, EachAt}
 use Rattle.task_syntax.specs.Form.{IsWellFormed}
 use Rattle.task_syntax.specs.Valid.{IsValid}
+use Rattle.task_syntax.specs.declared.program.Root.{Root as RootLine}
 use Rattle.task_syntax.specs.declared.program.Program.{Program}
 use Rattle.task_syntax.specs.declared.columns.Columns.{Columns}
 use Rattle.kt_words.specs.Ranges.{IsGeometry}
@@ -25,7 +26,7 @@ use Rattle.record_core.specs.declared.rows.CutTag.TheVariants.{Limit}
 use Rattle.record_core.specs.declared.rows.CutFrom.TheVariants.{Host, Task}
 use Rattle.run_model.specs.State.{Body, Named, Run}
 use Rattle.run_model.specs.Placing.{placed, pool_of}
-use Rattle.run_model.specs.Step.{step, steps}
+use Rattle.run_model.specs.Step.{step, steps, asks_roots, at_first}
 use Rattle.run_model.specs.End.{OneThreadRun, state_at, end_seen}
 
 -- two ends of the run of one program are the same
@@ -93,13 +94,20 @@ pub data IsReferred (r : Run) (u : ℕ) : Type 0 where
   of_root : (at : ℕ) → slice_get r.roots at ≡ Some (Named u) → IsReferred r u
   named : (t : ℕ) (body : Body) → found r.bodies t ≡ Some body → BodyRefers body u → IsReferred r u
 
--- No two tasks to which something refers have blocks that share a unit; and no step gives a block that shares one with the
--- block of a task to which something referred before the step.
+-- the run once these roots were asked for, and nothing has started
+abbrev pub roots_asked : Program → RunPlan → List RootLine → Run
+roots_asked p plan roots = asks_roots p plan.units (at_first plan) roots
+
+-- No two tasks to which something refers have blocks that share a unit; and neither a step nor asking for a root gives a block
+-- that shares one with the block of a task to which something referred before.
 pub record BlocksAreApart : Type 0 where
   pub held : (p : Program) (c : Columns) (plan : RunPlan) (taken u w unit : ℕ) (one other : BlockState) → IsGeometry plan.superblocks plan.units → IsReferred (state_at p c plan taken) u → IsReferred (state_at p c plan taken) w
       → found (state_at p c plan taken).blocks u ≡ Some one → found (state_at p c plan taken).blocks w ≡ Some other → HasUnit one unit → HasUnit other unit → u ≡ w
   pub given : (p : Program) (c : Columns) (plan : RunPlan) (taken u n unit : ℕ) (one other : BlockState) → IsGeometry plan.superblocks plan.units → IsReferred (state_at p c plan taken) u
       → found (state_at p c plan taken).blocks u ≡ Some one → found (state_at p c plan taken).blocks n ≡ None → found (step p c plan.units (state_at p c plan taken)).blocks n ≡ Some other
+      → HasUnit one unit → HasUnit other unit → ⊥
+  pub asked : (p : Program) (plan : RunPlan) (before more : List RootLine) (root : RootLine) (u n unit : ℕ) (one other : BlockState) → IsGeometry plan.superblocks plan.units → p.roots ≡ before ++ root ∷ more → IsReferred (roots_asked p plan before) u
+      → found (roots_asked p plan before).blocks u ≡ Some one → found (roots_asked p plan before).blocks n ≡ None → found (roots_asked p plan (before ++ root ∷ [])).blocks n ≡ Some other
       → HasUnit one unit → HasUnit other unit → ⊥
 
 -- a run of a valid program is over after at most 66 steps for each activation of its plan
