@@ -20,3 +20,8 @@ pub mod WayLaws
 pub mod AllowedMoves
 pub mod SetFrames
 pub mod EntryFrames
+pub mod NamedUnits
+pub mod MembersFrame
+pub mod FirstFrames
+pub mod HeldFrames
+pub mod PassedArguments

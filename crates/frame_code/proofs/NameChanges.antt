@@ -14,7 +14,7 @@ later : (f : Option ℕ) (names before after : List ℕ) (o : Option ℕ) → na
 later None names before after o e = e
 later (Some x) names before after o e = ap (λ ns. x ∷ ns) e
 
-changes : (fs : List (Option ℕ)) (x : ℕ) (future : Option ℕ) → x < length fs → (before : List ℕ) × (after : List ℕ)
+pub changes : (fs : List (Option ℕ)) (x : ℕ) (future : Option ℕ) → x < length fs → (before : List ℕ) × (after : List ℕ)
     × (present fs ≡ before ++ option_to_list (future_at fs x) ++ after) × (present (slice_set fs x future) ≡ before ++ option_to_list future ++ after)
 changes [] x future h = absurd (omega (arith, h))
 changes (f ∷ fs) zero future h = ([], present fs, present-first f (present fs), present-first future (present fs))

@@ -18,10 +18,10 @@ use Rattle.frame_code.proofs.Variables.{both-counts}
 use Rattle.frame_code.proofs.ControlWords.{word-of_parts, task-size, frame-members}
 use Rattle.frame_code.proofs.Aggregates.{body-of_task, body-of_members, members-known}
 
-words-one_more : (w : ℕ → ℕ) (place n : ℕ) → words_from w place (1 + n) ≡ w place ∷ words_from w (place + 1) n
+pub words-one_more : (w : ℕ → ℕ) (place n : ℕ) → words_from w place (1 + n) ≡ w place ∷ words_from w (place + 1) n
 words-one_more w place n = let e : 1 + n ≡ suc n = omega arith in ap (words_from w place) e
 
-words-none_more : (w : ℕ → ℕ) (place n : ℕ) → words_from w place (0 + n) ≡ words_from w (place + 0) n
+pub words-none_more : (w : ℕ → ℕ) (place n : ℕ) → words_from w place (0 + n) ≡ words_from w (place + 0) n
 words-none_more w place n =
     let e : 0 + n ≡ n = omega arith in let g : place ≡ place + 0 = omega arith in ap (words_from w place) e ∙ ap (λ (k : ℕ). words_from w k n) g
 
@@ -47,7 +47,7 @@ futures-again w place (v ∷ vs) = by v.sort (futures-again w (place + one_if_fu
     by Number e = e ∙ sym (words-none_more w place (future_count vs))
     by Future e = ap (λ n. n ∷ future_words vs (futures_from w (place + 1) vs)) (link-of_unit (w place)) ∙ (ap (λ ws. w place ∷ ws) e ∙ sym (words-one_more w place (future_count vs)))
 
-words-joined : (w : ℕ → ℕ) (place n m : ℕ) → words_from w place n ++ words_from w (place + n) m ≡ words_from w place (n + m)
+pub words-joined : (w : ℕ → ℕ) (place n m : ℕ) → words_from w place n ++ words_from w (place + n) m ≡ words_from w place (n + m)
 words-joined w place zero m = let e : place + 0 ≡ place = omega arith in let g : m ≡ 0 + m = omega arith in ap (λ (k : ℕ). words_from w k m) e ∙ ap (words_from w place) g
 words-joined w place (suc n) m =
     let e : place + suc n ≡ (place + 1) + n = omega arith in
@@ -67,7 +67,7 @@ words-whole [] = refl
 words-whole (word ∷ words) = ap (λ ws. word ∷ ws) (words-shifted word words 0 (length words) ∙ words-whole words)
 
 -- the control word, and the words after it
-words-after : (words : List ℕ) (n : ℕ) → length words ≡ 1 + n → (slice_index words 0 ∷ words_from (slice_index words) 1 n) ≡ words
+pub words-after : (words : List ℕ) (n : ℕ) → length words ≡ 1 + n → (slice_index words 0 ∷ words_from (slice_index words) 1 n) ≡ words
 words-after words n e = sym (words-one_more (slice_index words) 0 n) ∙ (ap (words_from (slice_index words) 0) (sym e) ∙ words-whole words)
 
 task-again : (p : Program) (words : List ℕ) → IsFrame p words → is_aggregate (slice_index words 0) ≡ false

@@ -33,7 +33,7 @@ pub fn at_entry(checked: &Checked, kind: u16) -> Frame
 }
 
 /// The variables of the kind of a task's frame.
-fn variables_of<'a>(checked: &'a Checked, words: &[u64]) -> &'a [Variable]
+pub fn variables_of<'a>(checked: &'a Checked, words: &[u64]) -> &'a [Variable]
     requires frame { IsFrame checked.now words.now }
     requires task { is_aggregate (slice_index words.now 0) ≡ false }
     ensures same { result.now ≡ variables_at checked.now (control_kind (slice_index words.now 0)) }
