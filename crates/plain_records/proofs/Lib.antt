@@ -1,0 +1,4 @@
+mod Waking
+mod Popped
+mod Outs
+mod Given

@@ -1,0 +1,5 @@
+use Rattle.std.proofs.Common.{ℕ, List}
+use Rattle.plain_records.proofs.store.Records.complete.Given as goal
+
+abbrev pub ghost-wake : goal.ghost-wake
+ghost-wake g a = g.waiters

@@ -1,0 +1,8 @@
+use Rattle.std.proofs.Common.{◌≡◌, ◌+◌, ◌*◌, ◌<◌, ◌≤◌, IfOk, None, Some, length, replicate, slice_get, ℕ, ◌-◌}
+use Rattle.run_model.specs.Placing.{words_of}
+use Rattle.plain_state.specs.Store.{HasUnit, no_record, out_of_class, unused_store}
+use Rattle.plain_records.specs.Allocated.{out_before}
+use Rattle.plain_records.proofs.store.out_of.Given as goal
+
+abbrev pub invariant-superblocks : goal.invariant-superblocks
+invariant-superblocks l = (l.out ≡ out_before l.pool l.class l.superblock) × (l.out ≤ 512 * l.superblock) × (length l.pool.superblocks ≤ 1024)

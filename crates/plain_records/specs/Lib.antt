@@ -1,0 +1,4 @@
+pub mod Ready
+pub mod StoreView
+pub mod Allocated
+pub mod Taken

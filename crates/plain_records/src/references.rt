@@ -1,0 +1,70 @@
+ghost use Rattle.std.specs.Prelude.{◌≡◌, ◌↔◌, ◌≤◌, IfSome, IfNone, IsNone, None, slice_set};
+ghost use Rattle.pool_core.specs.Pool.{HasNoRoom, IsOut};
+ghost use Rattle.plain_state.specs.Store.{HasUnit, MayHold, MayLetGo, held, let_go, made, without_block};
+ghost use Rattle.plain_records.specs.Allocated.{Allocates, IsGivenBack, IsReleasedFrom, pool_without};
+
+use crate::store::Records;
+use plain_state::Record;
+use pool_core::{Block, PlainPool};
+
+impl Records {
+    /// Gives a block of a class, if the pool has room for one.
+    pub fn allocate(&mut self, class: u8) -> Option<Block>
+        requires { class ≤ 3 }
+        ensures some { IfSome result (λ block. Allocates self.old class block self.new) }
+        ensures none { IsNone result ↔ HasNoRoom self.old.pool class }
+        ensures unchanged { IfNone result (self.new ≡ self.old) }
+    {
+        self.pool.allocate(class)
+    }
+
+    /// Gives a block back in which no record was made.
+    pub fn release(&mut self, block: Block)
+        requires { IsOut self.old.pool block }
+        ensures { IsReleasedFrom self.old block self.new }
+    {
+        self.pool.release(block);
+    }
+
+    /// Makes the record of a new task in its block.
+    pub fn make(&mut self, block: Block, known: Record)
+        requires { HasUnit self.old block.unit }
+        ensures { self.new ≡ made block known self.old }
+    {
+        let unit = block.unit() as usize;
+        self.records[unit] = known;
+        self.blocks[unit] = Some(block);
+    }
+
+    /// One more variable, member or root names the task.
+    pub fn hold(&mut self, unit: u32)
+        requires { MayHold unit self.old }
+        ensures { self.new ≡ held unit self.old }
+    {
+        self.records[unit as usize].references += 1;
+    }
+
+    /// One less names it, or it has ended. Where nothing else refers to it, its block goes back to
+    /// the pool.
+    pub fn let_go(&mut self, unit: u32)
+        requires { MayLetGo unit self.old }
+        ensures { self.new ≡ let_go unit self.old }
+    {
+        let known = &mut self.records[unit as usize];
+        known.references -= 1;
+        if known.references == 0 {
+            give_back(&mut self.pool, &mut self.blocks, unit);
+        }
+    }
+}
+
+// The block at a unit goes back to the pool.
+fn give_back(pool: &mut PlainPool, blocks: &mut Vec<Option<Block>>, unit: u32)
+    requires { IsGivenBack pool.old blocks.old.items unit }
+    ensures pool { pool.new ≡ pool_without pool.old blocks.old.items unit }
+    ensures blocks { blocks.new.items ≡ slice_set blocks.old.items unit None }
+{
+    if let Some(block) = blocks[unit as usize].take() {
+        pool.release(block);
+    }
+}

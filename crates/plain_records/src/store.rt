@@ -1,0 +1,150 @@
+ghost use Rattle.std.specs.Prelude.{◌≡◌, ◌+◌, ◌*◌, ◌<◌, ◌≤◌, IfOk, None, Some, length, replicate, slice_get};
+ghost use Rattle.run_model.specs.Placing.{words_of};
+ghost use Rattle.plain_state.specs.Store.{HasUnit, no_record, out_of_class, unused_store};
+ghost use Rattle.plain_records.specs.Allocated.{out_before};
+
+use crate::ready::Ready;
+use kt_words::{Geometry, SuperWord};
+use plain_state::Record;
+use pool_core::{Block, PlainPool};
+use std::alloc::{AllocError, Global};
+use std::marker::Model;
+use task_syntax::Priority;
+
+/// The records of a run, by the first unit of their block, with the pool that the blocks are from,
+/// the frames, 8 words to a unit, and a queue for each priority of the activations that may start.
+#[derive(Drop)]
+pub struct Records {
+    pub(crate) superblocks: u32,
+    pub(crate) pool: PlainPool,
+    pub(crate) blocks: Vec<Option<Block>>,
+    pub(crate) records: Vec<Record>,
+    pub(crate) words: Vec<u64>,
+    pub(crate) ready: Ready,
+}
+
+impl Model for Records {
+    ghost use Rattle.plain_state.specs.Store.{StoreState};
+    ghost use Rattle.plain_records.specs.StoreView.{store_of, AreRecords};
+
+    ghost Value = { StoreState };
+
+    ghost view = { λ r. store_of r.pool r.blocks.items r.records.items r.words.items r.ready };
+
+    ghost invariant = { λ r. AreRecords r.superblocks r.pool r.blocks.items r.records.items
+        r.words.items r.ready };
+}
+
+/// What was never written is not read.
+fn unused_record() -> Record
+    ensures { result ≡ no_record }
+{
+    Record {
+        task: 0,
+        number: 0,
+        priority: Priority::Regular,
+        references: 0,
+        outcome: None,
+        cut: None,
+        first: None,
+        next: None,
+        length: 0,
+    }
+}
+
+/// No block for each unit.
+fn no_blocks(alloc: Global, count: usize) -> Result<Vec<Option<Block>>, AllocError>
+    ensures { IfOk result (λ blocks. blocks.items ≡ replicate count None) }
+{
+    let mut blocks = Vec::with_capacity(alloc, count)?;
+    'units: for _ in 0..count {
+        blocks.push(None)?;
+    }
+    Ok(blocks)
+}
+
+impl Records {
+    /// No record, and all memory that later calls need.
+    pub fn new(alloc: Global, geometry: Geometry) -> Result<Records, AllocError>
+        ensures { IfOk result (λ made. made ≡ unused_store geometry.superblocks geometry.units) }
+    {
+        let units = geometry.superblocks as usize * geometry.units as usize;
+        let pool = PlainPool::new(alloc, geometry)?;
+        let blocks = no_blocks(alloc, units)?;
+        let records = vec![in alloc; unused_record(); units]?;
+        let words = vec![in alloc; 0; units * 8]?;
+        let ready = Ready::new(alloc, units)?;
+        Ok(Records {
+            superblocks: geometry.superblocks,
+            pool,
+            blocks,
+            records,
+            words,
+            ready,
+        })
+    }
+
+    /// What is known of the task in a block.
+    pub fn record(&self, unit: u32) -> Record
+        requires { HasUnit self.now unit }
+        ensures { slice_get self.now.records unit ≡ Some result }
+    {
+        self.records[unit as usize]
+    }
+
+    /// Class, count and ever of a superblock of the pool.
+    pub fn word(&self, superblock: u32) -> SuperWord
+        requires { superblock < length self.now.pool.superblocks }
+        ensures { slice_get (words_of self.now.pool) superblock ≡ Some result }
+    {
+        self.pool.word(superblock)
+    }
+
+    /// How many superblocks the pool has.
+    pub fn superblocks(&self) -> u32
+        ensures { result ≡ length self.now.pool.superblocks }
+    {
+        self.superblocks
+    }
+
+    /// Does nothing. Call it for how many units and superblocks there are at most.
+    pub fn keeps(&self)
+        ensures units { length self.now.records ≤ 524288 }
+        ensures superblocks { length self.now.pool.superblocks ≤ 1024 }
+    {
+        self.pool.keeps();
+    }
+
+    /// How many blocks of a class are out.
+    pub fn out(&self, class: u8) -> u32
+        ensures { result ≡ out_of_class self.now.pool class }
+    {
+        out_of(&self.pool, self.superblocks, class)
+    }
+}
+
+/// How many blocks of a class are out of a pool.
+fn out_of(pool: &PlainPool, superblocks: u32, class: u8) -> u32
+    requires { superblocks ≡ length pool.now.superblocks }
+    ensures { result ≡ out_of_class pool.now class }
+{
+    pool.keeps();
+    let mut out = 0;
+    'superblocks: for superblock in 0..superblocks {
+        out += out_in(pool, superblock, class);
+    }
+    out
+}
+
+/// How many blocks of a class are out of a superblock.
+fn out_in(pool: &PlainPool, superblock: u32, class: u8) -> u32
+    requires { superblock < length pool.now.superblocks }
+    ensures count { out_before pool.now class (superblock + 1) ≡ out_before pool.now class superblock + result }
+    ensures few { result ≤ 512 }
+{
+    if pool.class(superblock) == class {
+        pool.count(superblock)
+    } else {
+        0
+    }
+}
