@@ -26,7 +26,7 @@ def many_kinds():
 
 
 def deep():
-    """A chain of 200,000 tasks, each of which waits for the next."""
+    """A chain of 100,000 tasks below the root's, each of which waits for the next."""
     return """ktask 1
 kind down n
   var m @a
@@ -42,7 +42,7 @@ state up holds @a settled @a
   add m m 1
   done m
 end
-root r down 200000
+root r down 100000
 """
 
 
@@ -78,7 +78,7 @@ TEXTS = {
     "file-past-a-million-bytes": (long_program(1_000_001), done(b"root r 1\n")),
     "sixteen-roots": (many_roots(), done(b"".join(b"root r%d 1\n" % at for at in range(16)))),
     "sixty-four-kinds": (many_kinds(), done(b"root r 63\n")),
-    "deep": (deep(), done(b"root r 200000\n")),
+    "deep": (deep(), done(b"root r 100000\n")),
 }
 
 

@@ -10,11 +10,11 @@ def told(program, *words):
 
 
 def said(text):
-    """The root lines that a program's comment says, and the status."""
-    comment = " ".join(line.lstrip("# ") for line in text.splitlines() if line.startswith("#"))
-    lines = re.findall(r"`(root [^`]*)`", comment)
-    status = re.search(r"status(?: is)? (\d)", comment)
-    return int(status[1]) if status else 0, "".join(line + "\n" for line in lines).encode()
+    """The status and the report that a program's comment says: the report's lines stand in three blanks."""
+    comment = [line for line in text.splitlines() if line.startswith("#")]
+    report = [line.removeprefix("#   ") for line in comment if line.startswith("#   ")]
+    status = re.search(r"status(?: is)? (\d)", " ".join(line.lstrip("# ") for line in comment))
+    return int(status[1]) if status else 0, "".join(line + "\n" for line in report).encode()
 
 
 def words_of(path):

@@ -1,5 +1,11 @@
 # Fibonacci numbers by tasks that wait for an aggregate: a task below 2 is done at once; any other spawns two tasks,
-# gathers them, respawns behind the aggregate, and adds up what they give. It prints `root r 55`.
+# gathers them, respawns behind the aggregate, and adds up what they give.
+# It prints
+#   root r 55
+#   activations 441
+#   tasks 265
+#   nulls 0
+#   held 1 0 0 0
 ktask 1
 kind fib n
   var x y @a @b @g

@@ -1,6 +1,14 @@
 # A diamond of roots: two stand behind the top and are given its future, and the last is given the futures of both. It
-# starts behind the one and respawns behind the other. It prints `root top 2`, `root left 3`, `root right 7` and
-# `root bottom 21`.
+# starts behind the one and respawns behind the other. Each root's block is held to the end.
+# It prints
+#   root top 2
+#   root left 3
+#   root right 7
+#   root bottom 21
+#   activations 5
+#   tasks 4
+#   nulls 0
+#   held 4 0 0 0
 ktask 1
 kind number n
 state start

@@ -1,5 +1,11 @@
 # A future is passed on: the task spawns a number, and two tasks that are given its future and stand behind it. It keeps
-# the future itself, and adds up all three. It prints `root r 35`.
+# the future itself, and adds up all three.
+# It prints
+#   root r 35
+#   activations 8
+#   tasks 5
+#   nulls 0
+#   held 1 0 0 0
 ktask 1
 kind number n
 state start

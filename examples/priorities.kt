@@ -1,5 +1,11 @@
 # Priorities say how soon a ready task is started, and change no value: each task spawns four smaller ones, the first of
-# high priority and the last of low, and adds up what they give. It prints `root r 64`.
+# high priority and the last of low, and adds up what they give.
+# It prints
+#   root r 64
+#   activations 190
+#   tasks 106
+#   nulls 0
+#   held 1 0 0 0
 ktask 1
 kind grid d
   var x @a @b @c @e @g

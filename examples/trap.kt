@@ -1,5 +1,12 @@
 # A trap is passed on only where its number is asked for. The child traps; the first root gets its number and traps
-# too, and the second stands behind the child without asking: `root asks trap overflow`, `root waits 5`, status 1.
+# too, and the second stands behind the child without asking. The status is 1.
+# It prints
+#   root asks trap overflow
+#   root waits 5
+#   activations 6
+#   tasks 4
+#   nulls 0
+#   held 2 0 0 0
 ktask 1
 kind below
   var x

@@ -1,5 +1,13 @@
 # A trap is passed on by `get` alone. The quotient traps; a root behind it that does not ask for its number runs, and one
-# that asks traps too. It prints `root quotient trap divide`, `root waits 1` and `root asks trap divide`, status 1.
+# that asks traps too. The status is 1.
+# It prints
+#   root quotient trap divide
+#   root waits 1
+#   root asks trap divide
+#   activations 3
+#   tasks 3
+#   nulls 0
+#   held 3 0 0 0
 ktask 1
 kind quotient a b
   var x

@@ -1,12 +1,14 @@
 -- Why a command's plan stops, and what its text is where it does not.
 use Rattle.std.proofs.Common.{◌≡◌, ℕ, ◌≤◌, inl, inr, List, Option, Some, None, Result, Ok, Err, IsErr, IsOk, IsOkAnd, IfSome, refl, sym, ap, subst}
 use Rattle.task_syntax.specs.Columns.{no_columns}
+use Rattle.task_syntax.specs.Form.{IsWellFormed}
 use Rattle.task_syntax.specs.Valid.{IsValid}
 use Rattle.task_syntax.specs.declared.columns.Columns.{Columns}
 use Rattle.task_syntax.specs.declared.program.Program.{Program}
 use Rattle.task_text.specs.Fault.{number_of}
 use Rattle.task_text.specs.declared.fault.Fault.{Fault}
 use Rattle.task_reader.specs.Read.{program_in}
+use Rattle.task_reader.proofs.Read.{program_in-formed}
 use Rattle.task_writer.specs.Text.{text_of}
 use Rattle.ktask_cli.specs.declared.choice.Command.TheVariants.{Run, Check, Print}
 use Rattle.tool_io.specs.declared.fetch_error.FetchError.{FetchError}
@@ -192,6 +194,15 @@ run_took name columns was is input f =
       told = told_behind columns r.0 is (valid_told name was r.0 r.1 r.2) (columns_took columns r.0 is j.0 j.1);
       had = had_behind columns was r.0 is (valid_keeps name was r.0 r.1 r.2) (columns_took columns r.0 is j.0 j.1);
     }
+
+-- what is run is well formed
+pub run_formed : (name : List ℕ) (columns : Option (List ℕ)) (was is : ShelfSeen) (input : Program × Columns) → input_under name columns was is (Ok input) → IsWellFormed input.0
+run_formed name columns was is input f =
+    let r = both_ready (valid_under name) (Behind columns) was is input f in
+    let j = judged_ready (columns_under columns) (Pairs r.1) r.0 is input r.3 in
+    let read = (valid_read name was r.0 r.1 r.2).0 in
+    let same : r.1 ≡ input.0 = cc in
+    subst IsWellFormed same (program_in-formed read.text r.1 read.is_program)
 
 -- why a run stops
 pub data RunCause (name : List ℕ) (columns : Option (List ℕ)) (was is : ShelfSeen) (s : Stop) : Type 0 where

@@ -1,25 +1,21 @@
 -- What the status of a run says of how its roots ended.
-use Rattle.std.proofs.Common.{◌≡◌, ℕ, zero, suc, Bool, true, false, ◌||◌, List, [], ◌∷◌, Some, slice_get, refl, sym, ◌∙◌, ap, if◌then◌else◌}
+use Rattle.std.proofs.Common.{◌≡◌, ℕ, zero, suc, Bool, true, false, ◌||◌, List, [], ◌∷◌, length, Some, slice_get, refl, sym, ◌∙◌, ap, if◌then◌else◌}
 use Rattle.std.specs.List.{list_any}
+use Rattle.task_syntax.specs.Form.{IsWellFormed}
 use Rattle.task_syntax.specs.Places.{Each}
 use Rattle.task_syntax.specs.declared.columns.Columns.{Columns}
 use Rattle.task_syntax.specs.declared.program.Program.{Program as ProgramOf}
 use Rattle.task_syntax.specs.declared.value.Value.TheVariants.{Number, Trapped}
-use Rattle.plain_engine.specs.RunEnd.{RunEnd}
-use Rattle.plain_engine.specs.SoundEnd.{IsSoundEnd, IsSoundRootEnd, most_activations}
-use Rattle.plain_engine.specs.declared.end.RootEnd.{RootEnd}
-use Rattle.plain_engine.specs.declared.end.RootEnd.TheVariants.{Value, Cut}
-use Rattle.plain_engine.specs.declared.end.CutTag.TheVariants.{Null, Limit}
-use Rattle.ktask_cli.specs.Report.{status_of_ends, is_null, is_limit, is_trap}
-use Rattle.ktask_cli.specs.Statuses.{IsNumber, IsUncut}
+use Rattle.record_core.specs.EndSeen.{EndSeen, RunPlan}
+use Rattle.record_core.specs.EndSound.{EndSound, IsValueEnd}
+use Rattle.record_core.specs.declared.rows.CutFrom.{CutFrom}
+use Rattle.record_core.specs.declared.rows.RootEnd.{RootEnd}
+use Rattle.record_core.specs.declared.rows.RootEnd.TheVariants.{Value, Cut}
+use Rattle.record_core.specs.declared.rows.CutTag.TheVariants.{Null, Limit}
+use Rattle.record_core.proofs.EndFacts.{limit_met}
+use Rattle.ktask_cli.specs.RunStatus.{status_of_ends, is_null, is_limit, is_trap, IsNumber, IsNotNull}
 
--- the status of a run's ends is one of four, and says what they are
-pub data EndsAs (ends : List RootEnd) (status : ℕ) : Type 0 where
-  numbers : status ≡ 0 → Each ends IsNumber → EndsAs ends status
-  traps : status ≡ 1 → list_any is_trap ends ≡ true → Each ends IsUncut → EndsAs ends status
-  nulls : status ≡ 3 → list_any is_null ends ≡ true → EndsAs ends status
-  limits : status ≡ 4 → list_any is_limit ends ≡ true → EndsAs ends status
-
+-- a list has a member that passes
 any-some : {X : Type 0} (p : X → Bool) (xs : List X) → list_any p xs ≡ true → (at : ℕ) × (x : X) × (slice_get xs at ≡ Some x) × (p x ≡ true)
 any-some p [] h = cc
 any-some {X = X} p (y ∷ ys) h = by (p y) refl h (any-some p ys) where
@@ -32,12 +28,18 @@ or_false : (a b : Bool) → (a || b) ≡ false → (a ≡ false) × (b ≡ false
 or_false true b h = cc
 or_false false b h = (refl, h)
 
+-- no member passes
 any-none : {X : Type 0} (p : X → Bool) (xs : List X) → list_any p xs ≡ false → (at : ℕ) (x : X) → slice_get xs at ≡ Some x → p x ≡ false
 any-none p [] h at x is = cc
 any-none p (y ∷ ys) h zero x is = let b : (p y ≡ false) × (list_any p ys ≡ false) = or_false _ _ h in let s : y ≡ x = cc in ap p (sym s) ∙ b.0
 any-none p (y ∷ ys) h (suc at) x is = any-none p ys (or_false (p y) (list_any p ys) h).1 at x is
 
-uncut : (e : RootEnd) → is_null e ≡ false → is_limit e ≡ false → IsUncut e
+not_null : (e : RootEnd) → is_null e ≡ false → IsNotNull e
+not_null (Value v) n = tt
+not_null (Cut Null from) n = cc
+not_null (Cut Limit from) n = tt
+
+uncut : (e : RootEnd) → is_null e ≡ false → is_limit e ≡ false → IsValueEnd e
 uncut (Value v) n l = tt
 uncut (Cut Null from) n l = cc
 uncut (Cut Limit from) n l = cc
@@ -48,37 +50,33 @@ number (Value (Trapped trap)) a b c = cc
 number (Cut Null from) a b c = cc
 number (Cut Limit from) a b c = cc
 
-pub ends_as : (ends : List RootEnd) → EndsAs ends (status_of_ends ends)
-ends_as ends = by (list_any is_null ends) refl (list_any is_limit ends) refl (list_any is_trap ends) refl where
-  by : (n : Bool) → list_any is_null ends ≡ n → (l : Bool) → list_any is_limit ends ≡ l → (t : Bool) → list_any is_trap ends ≡ t
-      → EndsAs ends (if n then 3 else (if l then 4 else (if t then 1 else 0)))
-  by true en l el t et = nulls refl en
-  by false en true el t et = limits refl el
-  by false en false el true et = traps refl et (λ at e is. uncut e (any-none is_null ends en at e is) (any-none is_limit ends el at e is))
-  by false en false el false et =
-      numbers refl (λ at e is. number e (any-none is_null ends en at e is) (any-none is_limit ends el at e is) (any-none is_trap ends et at e is))
+-- a root that counts as cut by the limit is
+cut_by_limit : (e : RootEnd) → is_limit e ≡ true → (from : CutFrom) × (e ≡ Cut Limit from)
+cut_by_limit (Value v) l = cc
+cut_by_limit (Cut Null from) l = cc
+cut_by_limit (Cut Limit from) l = (from, refl)
 
-not_null : (p : ProgramOf) (c : Columns) (e : RunEnd) (at : ℕ) (x : RootEnd) → IsSoundRootEnd p c e at x → is_null x ≡ true → ⊥
-not_null p c e at (Value v) s h = cc
-not_null p c e at (Cut Null from) s h = s
-not_null p c e at (Cut Limit from) s h = cc
+-- the status of a run is one of four, and says what its end is
+pub data Shows (limit : ℕ) (e : EndSeen) (status : ℕ) : Type 0 where
+  all_numbers : status ≡ 0 → Each e.roots IsNumber → Shows limit e status
+  none_cut : status ≡ 1 → list_any is_trap e.roots ≡ true → Each e.roots IsValueEnd → Shows limit e status
+  some_null : status ≡ 3 → list_any is_null e.roots ≡ true → Shows limit e status
+  limited : status ≡ 4 → list_any is_limit e.roots ≡ true → Each e.roots IsNotNull → length e.rows ≡ limit → Shows limit e status
 
-at_limit : (p : ProgramOf) (c : Columns) (e : RunEnd) (at : ℕ) (x : RootEnd) → IsSoundRootEnd p c e at x → is_limit x ≡ true → e.accepted ≡ most_activations
-at_limit p c e at (Value v) s h = cc
-at_limit p c e at (Cut Null from) s h = absurd s
-at_limit p c e at (Cut Limit from) s h = s.0
+module _ (p : ProgramOf) (c : Columns) (plan : RunPlan) (e : EndSeen) (formed : IsWellFormed p) (sound : EndSound p c plan e) where
+  -- where some root is cut by the limit, it was met
+  met : list_any is_limit e.roots ≡ true → length e.rows ≡ plan.limit
+  met some =
+      let r = any-some is_limit e.roots some in
+      let cut = cut_by_limit r.1 r.3 in
+      limit_met p c plan e formed sound r.0 cut.0 (r.2 ∙ ap Some cut.1)
 
--- what a run's status says of its end
-pub data Shows (e : RunEnd) (status : ℕ) : Type 0 where
-  all_numbers : status ≡ 0 → Each e.roots IsNumber → Shows e status
-  none_cut : status ≡ 1 → list_any is_trap e.roots ≡ true → Each e.roots IsUncut → Shows e status
-  limited : status ≡ 4 → list_any is_limit e.roots ≡ true → e.accepted ≡ most_activations → Shows e status
-
-pub shows : (p : ProgramOf) (c : Columns) (e : RunEnd) (status : ℕ) → IsSoundEnd p c e → EndsAs e.roots status → Shows e status
-shows p c e status sound (numbers is each) = all_numbers is each
-shows p c e status sound (traps is any each) = none_cut is any each
-shows p c e status sound (nulls is any) = let r = any-some is_null e.roots any in absurd (not_null p c e r.0 r.1 (sound.roots r.0 r.1 r.2) r.3)
-shows p c e status sound (limits is any) = let r = any-some is_limit e.roots any in limited is any (at_limit p c e r.0 r.1 (sound.roots r.0 r.1 r.2) r.3)
-
-pub run_shows : (p : ProgramOf) (c : Columns) (e : RunEnd) → IsSoundEnd p c e → Shows e (status_of_ends e.roots)
-run_shows p c e sound = shows p c e (status_of_ends e.roots) sound (ends_as e.roots)
+  pub run_shows : Shows plan.limit e (status_of_ends e.roots)
+  run_shows = by (list_any is_null e.roots) refl (list_any is_limit e.roots) refl (list_any is_trap e.roots) refl where
+    by : (n : Bool) → list_any is_null e.roots ≡ n → (l : Bool) → list_any is_limit e.roots ≡ l → (t : Bool) → list_any is_trap e.roots ≡ t
+        → Shows plan.limit e (if n then 3 else (if l then 4 else (if t then 1 else 0)))
+    by true en l el t et = some_null refl en
+    by false en true el t et = limited refl el (λ at x is. not_null x (any-none is_null e.roots en at x is)) (met el)
+    by false en false el true et = none_cut refl et (λ at x is. uncut x (any-none is_null e.roots en at x is) (any-none is_limit e.roots el at x is))
+    by false en false el false et =
+        all_numbers refl (λ at x is. number x (any-none is_null e.roots en at x is) (any-none is_limit e.roots el at x is) (any-none is_trap e.roots et at x is))

@@ -1,6 +1,7 @@
 pub mod Told
-pub mod Reported
+pub mod Offered
 pub mod Plans
 pub mod Causes
 pub mod Ends
+pub mod RootsSeen
 pub mod Statuses

@@ -1,5 +1,5 @@
 -- Parts of a plan, one behind another.
-use Rattle.std.proofs.Common.{◌≡◌, ℕ, List, Result, Ok, Err, IfOk, IfErr, inl, inr, refl, sym, subst}
+use Rattle.std.proofs.Common.{◌≡◌, ℕ, List, Result, Ok, Err, inl, inr, refl, sym, subst}
 use Rattle.std.specs.Result.{result_map_both}
 use Rattle.tool_io.specs.declared.fetch_error.FetchError.{FetchError}
 use Rattle.ktask_cli.specs.declared.stop.InputFile.{InputFile}
@@ -22,12 +22,6 @@ judges first P was is ready result f p = (is, Ok ready, f, (refl, p))
 pub stops : {A B : Type 0} (first : Plan A) (P : A → Result B Stop → Type 0) (was is : ShelfSeen) (stop : Stop) → first was is (Err stop) → Judges first P was is (Err stop)
 unfolding ◌>>=◌ judged
 stops first P was is stop f = (is, Err stop, f, (refl, refl))
-
--- what comes to something may come to want of memory
-pub wants_instead : {A B : Type 0} (first : Plan A) (P : A → Result B Stop → Type 0) (was is : ShelfSeen) (ready : B) → Judges first P was is (Ok ready) → Judges first P was is (Err WantOfMemory)
-unfolding ◌>>=◌ judged
-wants_instead first P was is ready (middle, Ok a, f, (same, p)) = (middle, Ok a, f, (same, inl refl))
-wants_instead first P was is ready (middle, Err s, f, (same, e)) = cc
 
 -- what was judged, where something is ready
 pub judged_ready : {A B : Type 0} (first : Plan A) (P : A → Result B Stop → Type 0) (was is : ShelfSeen) (ready : B) → Judges first P was is (Ok ready)
@@ -103,17 +97,3 @@ judge P was result p = (refl, p)
 pub was_judged : {B : Type 0} (P : Result B Stop → Type 0) (was is : ShelfSeen) (result : Result B Stop) → judged P was is result → (is ≡ was) × OrWants P result
 unfolding judged
 was_judged P was is result j = j
-
--- two parts and a judgement may come to want of memory instead of something ready
-pub want_for_both : {A B C : Type 0} (first : Plan A) (second : Plan B) (P : A → B → Result C Stop → Type 0) (was is : ShelfSeen) (ready : C)
-    → (first >>= (λ a. second >>= (λ b. judged (P a b)))) was is (Ok ready) → (first >>= (λ a. second >>= (λ b. judged (P a b)))) was is (Err WantOfMemory)
-want_for_both first second P was is ready f =
-    let r = both_ready first (λ a. second >>= (λ b. judged (P a b))) was is ready f in
-    goes_on first (λ a. second >>= (λ b. judged (P a b))) was r.0 is r.1 (Err WantOfMemory) r.2 (wants_instead second (λ b. P r.1 b) r.0 is ready r.3)
-
-pub ran_with : {A B C R : Type 0} (first : Plan A) (second : Plan B) (P : A → B → Result C Stop → Type 0) (was is : ShelfSeen) (ready : C) (view : R → C) (Q : R → Type 0) (result : Result R Stop)
-    → (first >>= (λ a. second >>= (λ b. judged (P a b)))) was is (Ok ready) → IfOk result (λ r. (view r ≡ ready) × Q r) → IfErr result (λ stop. stop ≡ WantOfMemory)
-    → (first >>= (λ a. second >>= (λ b. judged (P a b)))) was is (result_map_both view (λ stop. stop) result)
-ran_with first second P was is ready view Q (Ok r) f same wants = subst (λ b. (first >>= (λ a. second >>= (λ b. judged (P a b)))) was is (Ok b)) (sym same.0) f
-ran_with first second P was is ready view Q (Err stop) f same wants =
-    subst (λ s. (first >>= (λ a. second >>= (λ b. judged (P a b)))) was is (Err s)) (sym wants) (want_for_both first second P was is ready f)

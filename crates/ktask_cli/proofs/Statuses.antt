@@ -4,7 +4,8 @@ use Rattle.std.proofs.Math.Nat.{le-min, min-le_left, min-le_right}
 use Rattle.std.proofs.Common.{nat_eq, ◌≡◌, ℕ, ◌+◌, ◌-◌, ◌^◌, ◌<◌, ◌≤◌, min, arith, ◌⊎◌, inl, inr, false, List, length, Option, Some, None, Result, Ok, Err, IsSome, IsSomeAnd, IsNone, is_some, IfSome, MatchResult, refl, sym, ◌∙◌, ap, subst}
 use Rattle.task_syntax.specs.declared.columns.Columns.{Columns}
 use Rattle.task_syntax.specs.declared.program.Program.{Program}
-use Rattle.plain_engine.specs.RunEnd.{RunEnd}
+use Rattle.task_syntax.specs.Form.{IsWellFormed}
+use Rattle.record_core.specs.EndSeen.{EndSeen}
 use Rattle.ktask_cli.specs.declared.choice.Command.{Command}
 use Rattle.ktask_cli.specs.declared.choice.Command.TheVariants.{Run, Check, Print}
 use Rattle.tool_io.specs.declared.fetch_error.FetchError.{FetchError}
@@ -18,13 +19,14 @@ use Rattle.ktask_cli.specs.Outcome.{Answer, Writes, Runs, Prints, Stops, Reaches
 use Rattle.ktask_cli.specs.Plan.{Plan}
 use Rattle.ktask_cli.specs.Ready.{input_under, sizes_under, text_under}
 use Rattle.ktask_cli.specs.Refusal.{TellsOrWants, Told}
-use Rattle.ktask_cli.specs.Report.{report_of, status_of_ends}
+use Rattle.ktask_cli.specs.Order.{default_plan, default_order, order_text}
+use Rattle.ktask_cli.specs.RunStatus.{status_of_ends, IsStatusOf}
 use Rattle.tool_io.specs.Seen.{ShelfSeen, SinkSeen, Holds}
 use Rattle.ktask_cli.specs.Io.{Fetches}
-use Rattle.ktask_cli.specs.Statuses.{Suits, SuitsText, HasColumns, IsFetched, IsRefused, IsOrWants, TwoForWords, FiveForText, SixForColumns, IsLong, SevenForFetch, EightForOut, ZeroForPrinted, HoldsColumns, RunForSuited, QuietWhereRefused, SilentWhereDone, RunsAtStatus, IsStatusOf, EndsByStatus, StatusHasCause}
+use Rattle.ktask_cli.specs.Statuses.{Suits, SuitsText, HasColumns, IsFetched, IsRefused, IsOrWants, TwoForWords, FiveForText, SixForColumns, IsLong, SevenForFetch, EightForOut, ZeroForPrinted, HoldsColumns, RunForSuited, QuietWhereRefused, SilentWhereDone, IsOfRunAlone, IsDone, RunsAtStatus, EndsByStatus, StatusHasCause}
 use Rattle.ktask_cli.specs.Stop.{status_of, longest_file, named_for}
-use Rattle.ktask_cli.proofs.Causes.{Took, Cause, wants, unfetched, unsuited, Keeps, ColumnsCause, columns_want, columns_unfetched, columns_refused, Had, TookInput, run_took, RunCause, in_program, in_columns, run_stopped, TookOne, check_took, check_stopped, print_took, print_stopped}
-use Rattle.ktask_cli.proofs.Ends.{Shows, all_numbers, none_cut, limited, run_shows}
+use Rattle.ktask_cli.proofs.Causes.{Took, Cause, wants, unfetched, unsuited, Keeps, ColumnsCause, columns_want, columns_unfetched, columns_refused, Had, TookInput, run_took, run_formed, RunCause, in_program, in_columns, run_stopped, TookOne, check_took, check_stopped, print_took, print_stopped}
+use Rattle.ktask_cli.proofs.Ends.{Shows, all_numbers, none_cut, some_null, limited, run_shows}
 
 -- ---- what can come of a command
 
@@ -34,8 +36,8 @@ record Quiet (a : Answer) : Type 0 where
   out : a.out_is ≡ a.out_was
 
 data Came (command : Command) (name : List ℕ) (columns : Option (List ℕ)) (was is : ShelfSeen) (a : Answer) : Type 0 where
-  ran : command ≡ Run → Took (Suits command) name was → IsFetched is → (e : RunEnd) → a.finished ≡ Some e → Shows e a.status → a.status ≡ status_of_ends e.roots → a.err_is ≡ a.err_was → Had columns was → Came command name columns was is a
-  unreported : command ≡ Run → Took (Suits command) name was → IsFetched is → (e : RunEnd) → a.finished ≡ Some e → a.status ≡ 8 → Rose a.out_was.faults a.out_is.faults → Had columns was → Came command name columns was is a
+  ran : command ≡ Run → Took (Suits command) name was → IsFetched is → (e : EndSeen) → a.finished ≡ Some e → Shows default_plan.limit e a.status → a.status ≡ status_of_ends e.roots → a.err_is ≡ a.err_was → Had columns was → Came command name columns was is a
+  unreported : command ≡ Run → Took (Suits command) name was → IsFetched is → (e : EndSeen) → a.finished ≡ Some e → a.status ≡ 8 → Rose a.out_was.faults a.out_is.faults → Had columns was → Came command name columns was is a
   printed : ¬ (command ≡ Run) → Took (Suits command) name was → IsFetched is → IsNone a.finished → a.status ≡ 0 → a.err_is ≡ a.err_was → Came command name columns was is a
   unprinted : ¬ (command ≡ Run) → Took (Suits command) name was → IsFetched is → IsNone a.finished → a.status ≡ 8 → Rose a.out_was.faults a.out_is.faults → Came command name columns was is a
   wanting : Quiet a → a.status ≡ 9 → Came command name columns was is a
@@ -115,14 +117,19 @@ quiet_stop s name a h = record { no_run = h.no_run; out = h.out }
 status_stop : (s : Stop) (name : List ℕ) (a : Answer) → Stops s name a → (a.status ≡ status_of s) ⊎ (a.status ≡ 9)
 status_stop s name a h = status_told s name a.status a.err_was a.err_is h.told
 
-came_run : (name : List ℕ) (columns : Option (List ℕ)) (was is : ShelfSeen) (a : Answer) → Reaches (input_under name columns) Runs (named_for name columns) was is a → Came Run name columns was is a
+came_run : (name : List ℕ) (columns : Option (List ℕ)) (was is : ShelfSeen) (a : Answer) → Reaches (input_under name columns) (λ input. Runs (default_order input)) (named_for name columns) was is a
+    → Came Run name columns was is a
 came_run name columns was is a r = by r.reached r.follows r.ended where
-  offered : (input : Program × Columns) (h : Runs input a) → TookInput name columns was is → Writes (report_of input.0 h.end) (status_of_ends h.end.roots) a → Came Run name columns was is a
-  offered input h took (inl t) = ran refl took.program took.told h.end h.finished (subst (λ n. Shows h.end n) (sym t.status_is) (run_shows input.0 input.1 h.end h.sound)) t.status_is t.err took.had
-  offered input h took (inr t) = unreported refl took.program took.told h.end h.finished t.told.status_is t.fault took.had
+  offered : (input : Program × Columns) (h : Runs (default_order input) a) → IsWellFormed input.0 → TookInput name columns was is
+      → Writes (order_text (default_order input) h.end) (status_of_ends h.end.roots) a → Came Run name columns was is a
+  offered input h formed took (inl t) =
+      ran refl took.program took.told h.end h.finished
+      (subst (λ n. Shows default_plan.limit h.end n) (sym t.status_is) (run_shows input.0 input.1 default_plan h.end formed h.run.sound)) t.status_is t.err took.had
+  offered input h formed took (inr t) = unreported refl took.program took.told h.end h.finished t.told.status_is t.fault took.had
 
-  by : (reached : Result (Program × Columns) Stop) → input_under name columns was is reached → MatchResult reached (λ input. Runs input a) (λ s. Stops s (named_for name columns s) a) → Came Run name columns was is a
-  by (Ok input) follows h = offered input h (run_took name columns was is input follows) h.offered
+  by : (reached : Result (Program × Columns) Stop) → input_under name columns was is reached
+      → MatchResult reached (λ input. Runs (default_order input) a) (λ s. Stops s (named_for name columns s) a) → Came Run name columns was is a
+  by (Ok input) follows h = offered input h (run_formed name columns was is input follows) (run_took name columns was is input follows) h.offered
   by (Err s) follows h = stopped_run name columns was is a s (run_stopped name columns was is s follows) (quiet_stop s (named_for name columns s) a h) (status_stop s (named_for name columns s) a h)
 
 -- a command that prints
@@ -155,10 +162,11 @@ came Print name columns was is a r = came_printed Print print_is_no_run (text_un
 other : {P : Type 0} (status m n : ℕ) → status ≡ m → status ≡ n → nat_eq m n ≡ false → P
 other status m n e f h = absurd (eqb-false m n h (sym e ∙ f))
 
-shown_not : {P : Type 0} (e : RunEnd) (status n : ℕ) → Shows e status → status ≡ n → nat_eq 0 n ≡ false → nat_eq 1 n ≡ false → nat_eq 4 n ≡ false → P
-shown_not e status n (all_numbers is each) f a b c = other status 0 n is f a
-shown_not e status n (none_cut is any each) f a b c = other status 1 n is f b
-shown_not e status n (limited is any at) f a b c = other status 4 n is f c
+shown_not : {P : Type 0} (e : EndSeen) (status n : ℕ) → Shows default_plan.limit e status → status ≡ n → nat_eq 0 n ≡ false → nat_eq 1 n ≡ false → nat_eq 3 n ≡ false → nat_eq 4 n ≡ false → P
+shown_not e status n (all_numbers is each) f a b c d = other status 0 n is f a
+shown_not e status n (none_cut is any each) f a b c d = other status 1 n is f b
+shown_not e status n (some_null is any) f a b c d = other status 3 n is f c
+shown_not e status n (limited is any each met) f a b c d = other status 4 n is f d
 
 some_none : {A P : Type 0} (o : Option A) (x : A) → o ≡ Some x → o ≡ None → P
 some_none o x e f = cc
@@ -193,7 +201,7 @@ Refused choice = choice ≡ None
 two : (command : Command) (name : List ℕ) (columns : Option (List ℕ)) (was is : ShelfSeen) (a : Answer) → Came command name columns was is a → TwoForWords (Some (command, name, columns)) a
 two command name columns was is a c = ((λ h. by c h), (λ h. some_choice_none (Some (command, name, columns)) refl h)) where
   by : Came command name columns was is a → a.status ≡ 2 → Refused (Some (command, name, columns))
-  by (ran run took told e finished shows by_roots err had) h = shown_not e a.status 2 shows h refl refl refl
+  by (ran run took told e finished shows by_roots err had) h = shown_not e a.status 2 shows h refl refl refl refl
   by (unreported run took told e finished status fault had) h = other a.status 8 2 status h refl
   by (printed plain took told none status err) h = other a.status 0 2 status h refl
   by (unprinted plain took told none status fault) h = other a.status 8 2 status h refl
@@ -214,7 +222,7 @@ five_where : (command : Command) (name : List ℕ) (was : ShelfSeen) (a : Answer
 five_where command name was a due = if_some_all (was.holds name) (λ held. ¬ SuitsText command held → IsOrWants 5 a) (λ held not. due)
 
 five : (command : Command) (name : List ℕ) (columns : Option (List ℕ)) (was is : ShelfSeen) (a : Answer) → Came command name columns was is a → FiveForText (Some (command, name, columns)) was is a
-five command name columns was is a (ran run took told e finished shows by_roots err had) = ((λ h. shown_not e a.status 5 shows h refl refl refl), (λ last. five_where_suited command name was a took))
+five command name columns was is a (ran run took told e finished shows by_roots err had) = ((λ h. shown_not e a.status 5 shows h refl refl refl refl), (λ last. five_where_suited command name was a took))
 five command name columns was is a (unreported run took told e finished status fault had) = ((λ h. other a.status 8 5 status h refl), (λ last. five_where_suited command name was a took))
 five command name columns was is a (printed plain took told none status err) = ((λ h. other a.status 0 5 status h refl), (λ last. five_where_suited command name was a took))
 five command name columns was is a (unprinted plain took told none status fault) = ((λ h. other a.status 8 5 status h refl), (λ last. five_where_suited command name was a took))
@@ -256,7 +264,7 @@ six_refused command name (Some other_file) was is a status told run took file te
     ((λ h. (run, told, (took.text, took.tells, took.suits), (text, subst (λ f. IfSome (was.holds f) (λ held. text ≡ held)) e tells, not))), (λ run last. six_where command name other_file was a (inl status)))
 
 six : (command : Command) (name : List ℕ) (columns : Option (List ℕ)) (was is : ShelfSeen) (a : Answer) → Came command name columns was is a → SixForColumns (Some (command, name, columns)) was is a
-six command name columns was is a (ran run took told e finished shows by_roots err had) = no_six command name columns was is a (λ h. shown_not e a.status 6 shows h refl refl refl) (λ r last file named. six_where_read command name file was a (had file named))
+six command name columns was is a (ran run took told e finished shows by_roots err had) = no_six command name columns was is a (λ h. shown_not e a.status 6 shows h refl refl refl refl) (λ r last file named. six_where_read command name file was a (had file named))
 six command name columns was is a (unreported run took told e finished status fault had) = no_six command name columns was is a (λ h. other a.status 8 6 status h refl) (λ r last file named. six_where_read command name file was a (had file named))
 six command name columns was is a (printed plain took told none status err) = no_six command name columns was is a (λ h. other a.status 0 6 status h refl) (λ r last file named. absurd (plain r))
 six command name columns was is a (unprinted plain took told none status fault) = no_six command name columns was is a (λ h. other a.status 8 6 status h refl) (λ r last file named. absurd (plain r))
@@ -266,7 +274,7 @@ six command name columns was is a (unfit q status told text tells not) = no_six 
 six command name columns was is a (unfit_columns q status told run took file text named tells not) = six_refused command name columns was is a status told run took file text named tells not
 
 seven : (command : Command) (name : List ℕ) (columns : Option (List ℕ)) (was is : ShelfSeen) (a : Answer) → Came command name columns was is a → SevenForFetch (Some (command, name, columns)) was is a
-seven command name columns was is a (ran run took told e finished shows by_roots err had) = ((λ h. shown_not e a.status 7 shows h refl refl refl), (λ r. absurd (not_refused is told r)))
+seven command name columns was is a (ran run took told e finished shows by_roots err had) = ((λ h. shown_not e a.status 7 shows h refl refl refl refl), (λ r. absurd (not_refused is told r)))
 seven command name columns was is a (unreported run took told e finished status fault had) = ((λ h. other a.status 8 7 status h refl), (λ r. absurd (not_refused is told r)))
 seven command name columns was is a (printed plain took told none status err) = ((λ h. other a.status 0 7 status h refl), (λ r. absurd (not_refused is told r)))
 seven command name columns was is a (unprinted plain took told none status fault) = ((λ h. other a.status 8 7 status h refl), (λ r. absurd (not_refused is told r)))
@@ -276,7 +284,7 @@ seven command name columns was is a (unfit q status told text tells not) = ((λ 
 seven command name columns was is a (unfit_columns q status told run took file text named tells not) = ((λ h. other a.status 6 7 status h refl), (λ r. absurd (not_refused is told r)))
 
 eight : (command : Command) (name : List ℕ) (columns : Option (List ℕ)) (was is : ShelfSeen) (a : Answer) → Came command name columns was is a → EightForOut a
-eight command name columns was is a (ran run took told e finished shows by_roots err had) h = shown_not e a.status 8 shows h refl refl refl
+eight command name columns was is a (ran run took told e finished shows by_roots err had) h = shown_not e a.status 8 shows h refl refl refl refl
 eight command name columns was is a (unreported run took told e finished status fault had) h = fault
 eight command name columns was is a (printed plain took told none status err) h = other a.status 0 8 status h refl
 eight command name columns was is a (unprinted plain took told none status fault) h = fault
@@ -319,24 +327,21 @@ run_suited command name columns was is a c run last = by c where
       (λ held e suits has. absurd (not (subst (SuitsText command) (sym e) suits))) tells
   by (unfit_columns q status told r took file text named tells not) = if_some_all (was.holds name) (λ held. SuitsText command held → HoldsColumns was columns → IsSome a.finished ⊎ (a.status ≡ 9)) (λ held suits has. absurd (held_columns columns was file text named tells not has))
 
--- the statuses at which nothing is told
-abbrev OfDone : Answer → Type 0
-OfDone a = (a.status ≡ 0) ⊎ ((a.status ≡ 1) ⊎ (a.status ≡ 4))
-
-not_done_at : {P : Type 0} (a : Answer) (m : ℕ) → a.status ≡ m → nat_eq m 0 ≡ false → nat_eq m 1 ≡ false → nat_eq m 4 ≡ false → OfDone a → P
-not_done_at a m is x y z (inl e) = other a.status m 0 is e x
-not_done_at a m is x y z (inr (inl e)) = other a.status m 1 is e y
-not_done_at a m is x y z (inr (inr e)) = other a.status m 4 is e z
+not_done_at : {P : Type 0} (a : Answer) (m : ℕ) → a.status ≡ m → nat_eq m 0 ≡ false → nat_eq m 1 ≡ false → nat_eq m 3 ≡ false → nat_eq m 4 ≡ false → IsDone a.status → P
+not_done_at a m is w x y z (inl e) = other a.status m 0 is e w
+not_done_at a m is w x y z (inr (inl e)) = other a.status m 1 is e x
+not_done_at a m is w x y z (inr (inr (inl e))) = other a.status m 3 is e y
+not_done_at a m is w x y z (inr (inr (inr e))) = other a.status m 4 is e z
 
 silent : (command : Command) (name : List ℕ) (columns : Option (List ℕ)) (was is : ShelfSeen) (a : Answer) → Came command name columns was is a → SilentWhereDone a
 silent command name columns was is a (ran run took told e finished shows by_roots err had) h = err
-silent command name columns was is a (unreported run took told e finished status fault had) h = not_done_at a 8 status refl refl refl h
+silent command name columns was is a (unreported run took told e finished status fault had) h = not_done_at a 8 status refl refl refl refl h
 silent command name columns was is a (printed plain took told none status err) h = err
-silent command name columns was is a (unprinted plain took told none status fault) h = not_done_at a 8 status refl refl refl h
-silent command name columns was is a (wanting q status) h = not_done_at a 9 status refl refl refl h
-silent command name columns was is a (refused q status last why) h = not_done_at a 7 status refl refl refl h
-silent command name columns was is a (unfit q status told text tells not) h = not_done_at a 5 status refl refl refl h
-silent command name columns was is a (unfit_columns q status told run took file text named tells not) h = not_done_at a 6 status refl refl refl h
+silent command name columns was is a (unprinted plain took told none status fault) h = not_done_at a 8 status refl refl refl refl h
+silent command name columns was is a (wanting q status) h = not_done_at a 9 status refl refl refl refl h
+silent command name columns was is a (refused q status last why) h = not_done_at a 7 status refl refl refl refl h
+silent command name columns was is a (unfit q status told text tells not) h = not_done_at a 5 status refl refl refl refl h
+silent command name columns was is a (unfit_columns q status told run took file text named tells not) h = not_done_at a 6 status refl refl refl refl h
 
 -- the statuses of a refusal
 abbrev OfRefusal : Answer → Type 0
@@ -349,10 +354,11 @@ no_refusal_at a m is w x v y z (inr (inr (inl e))) = other a.status m 6 is e v
 no_refusal_at a m is w x v y z (inr (inr (inr (inl e)))) = other a.status m 7 is e y
 no_refusal_at a m is w x v y z (inr (inr (inr (inr e)))) = other a.status m 9 is e z
 
-no_refusal_shown : {P : Type 0} (a : Answer) (e : RunEnd) → Shows e a.status → OfRefusal a → P
+no_refusal_shown : {P : Type 0} (a : Answer) (e : EndSeen) → Shows default_plan.limit e a.status → OfRefusal a → P
 no_refusal_shown a e (all_numbers is each) r = no_refusal_at a 0 is refl refl refl refl refl r
 no_refusal_shown a e (none_cut is any each) r = no_refusal_at a 1 is refl refl refl refl refl r
-no_refusal_shown a e (limited is any at) r = no_refusal_at a 4 is refl refl refl refl refl r
+no_refusal_shown a e (some_null is any) r = no_refusal_at a 3 is refl refl refl refl refl r
+no_refusal_shown a e (limited is any each met) r = no_refusal_at a 4 is refl refl refl refl refl r
 
 quiet : (command : Command) (name : List ℕ) (columns : Option (List ℕ)) (was is : ShelfSeen) (a : Answer) → Came command name columns was is a → QuietWhereRefused a
 quiet command name columns was is a (ran run took told e finished shows by_roots err had) r = no_refusal_shown a e shows r
@@ -366,79 +372,92 @@ quiet command name columns was is a (unfit_columns q status told run took file t
 
 -- the statuses of a run
 abbrev OfRun : Answer → Type 0
-OfRun a = (a.status ≡ 0) ⊎ ((a.status ≡ 1) ⊎ ((a.status ≡ 4) ⊎ (a.status ≡ 8)))
+OfRun a = IsDone a.status ⊎ (a.status ≡ 8)
 
-of_run : (a : Answer) (e : RunEnd) → Shows e a.status → OfRun a
-of_run a e (all_numbers is each) = inl is
-of_run a e (none_cut is any each) = inr (inl is)
-of_run a e (limited is any at) = inr (inr (inl is))
+of_run : (a : Answer) (e : EndSeen) → Shows default_plan.limit e a.status → OfRun a
+of_run a e (all_numbers is each) = inl (inl is)
+of_run a e (none_cut is any each) = inl (inr (inl is))
+of_run a e (some_null is any) = inl (inr (inr (inl is)))
+of_run a e (limited is any each met) = inl (inr (inr (inr is)))
 
-no_run_at : {P : Type 0} (a : Answer) (m : ℕ) → a.status ≡ m → nat_eq m 0 ≡ false → nat_eq m 1 ≡ false → nat_eq m 4 ≡ false → nat_eq m 8 ≡ false → OfRun a → P
-no_run_at a m is w x y z (inl e) = other a.status m 0 is e w
-no_run_at a m is w x y z (inr (inl e)) = other a.status m 1 is e x
-no_run_at a m is w x y z (inr (inr (inl e))) = other a.status m 4 is e y
-no_run_at a m is w x y z (inr (inr (inr e))) = other a.status m 8 is e z
+of_run_alone_not : {P : Type 0} (a : Answer) (m : ℕ) → a.status ≡ m → nat_eq m 1 ≡ false → nat_eq m 3 ≡ false → nat_eq m 4 ≡ false → IsOfRunAlone a.status → P
+of_run_alone_not a m is x y z (inl e) = other a.status m 1 is e x
+of_run_alone_not a m is x y z (inr (inl e)) = other a.status m 3 is e y
+of_run_alone_not a m is x y z (inr (inr e)) = other a.status m 4 is e z
 
-not_trapped_or_cut : {P : Type 0} (a : Answer) (m : ℕ) → a.status ≡ m → nat_eq m 1 ≡ false → nat_eq m 4 ≡ false → (a.status ≡ 1) ⊎ (a.status ≡ 4) → P
-not_trapped_or_cut a m is x y (inl e) = other a.status m 1 is e x
-not_trapped_or_cut a m is x y (inr e) = other a.status m 4 is e y
+no_run_at : {P : Type 0} (a : Answer) (m : ℕ) → a.status ≡ m → nat_eq m 0 ≡ false → nat_eq m 1 ≡ false → nat_eq m 3 ≡ false → nat_eq m 4 ≡ false → nat_eq m 8 ≡ false → OfRun a → P
+no_run_at a m is v w x y z (inl done) = not_done_at a m is v w x y done
+no_run_at a m is v w x y z (inr e) = other a.status m 8 is e z
 
-where_run : (command : Command) (name : List ℕ) (columns : Option (List ℕ)) (a : Answer) → command ≡ Run → (e : RunEnd) → a.finished ≡ Some e → OfRun a → RunsAtStatus (Some (command, name, columns)) a
+where_run : (command : Command) (name : List ℕ) (columns : Option (List ℕ)) (a : Answer) → command ≡ Run → (e : EndSeen) → a.finished ≡ Some e → OfRun a → RunsAtStatus (Some (command, name, columns)) a
 where_run command name columns a run e finished status = (((λ some. (run, status)), (λ h. ap is_some finished)), (λ h. run))
 
-where_printed : (command : Command) (name : List ℕ) (columns : Option (List ℕ)) (a : Answer) (m : ℕ) → ¬ (command ≡ Run) → IsNone a.finished → a.status ≡ m → nat_eq m 1 ≡ false → nat_eq m 4 ≡ false
-    → RunsAtStatus (Some (command, name, columns)) a
-where_printed command name columns a m plain none status x y = (((λ some. some_for_none a.finished some none), (λ h. absurd (plain h.0))), (λ h. not_trapped_or_cut a m status x y h))
+where_printed : (command : Command) (name : List ℕ) (columns : Option (List ℕ)) (a : Answer) (m : ℕ) → ¬ (command ≡ Run) → IsNone a.finished → a.status ≡ m
+    → nat_eq m 1 ≡ false → nat_eq m 3 ≡ false → nat_eq m 4 ≡ false → RunsAtStatus (Some (command, name, columns)) a
+where_printed command name columns a m plain none status x y z =
+    (((λ some. some_for_none a.finished some none), (λ h. absurd (plain h.0))), (λ h. of_run_alone_not a m status x y z h))
 
-where_stopped : (choice : Option Choice) (a : Answer) (m : ℕ) → IsNone a.finished → a.status ≡ m → nat_eq m 0 ≡ false → nat_eq m 1 ≡ false → nat_eq m 4 ≡ false → nat_eq m 8 ≡ false
-    → RunsAtStatus choice a
-where_stopped choice a m none status w x y z = (((λ some. some_for_none a.finished some none), (λ h. no_run_at a m status w x y z h.1)), (λ h. not_trapped_or_cut a m status x y h))
+where_stopped : (choice : Option Choice) (a : Answer) (m : ℕ) → IsNone a.finished → a.status ≡ m
+    → nat_eq m 0 ≡ false → nat_eq m 1 ≡ false → nat_eq m 3 ≡ false → nat_eq m 4 ≡ false → nat_eq m 8 ≡ false → RunsAtStatus choice a
+where_stopped choice a m none status v w x y z =
+    (((λ some. some_for_none a.finished some none), (λ h. no_run_at a m status v w x y z h.1)), (λ h. of_run_alone_not a m status w x y h))
 
 runs : (command : Command) (name : List ℕ) (columns : Option (List ℕ)) (was is : ShelfSeen) (a : Answer) → Came command name columns was is a → RunsAtStatus (Some (command, name, columns)) a
 runs command name columns was is a (ran run took told e finished shows by_roots err had) = where_run command name columns a run e finished (of_run a e shows)
-runs command name columns was is a (unreported run took told e finished status fault had) = where_run command name columns a run e finished (inr (inr (inr status)))
-runs command name columns was is a (printed plain took told none status err) = where_printed command name columns a 0 plain none status refl refl
-runs command name columns was is a (unprinted plain took told none status fault) = where_printed command name columns a 8 plain none status refl refl
-runs command name columns was is a (wanting q status) = where_stopped (Some (command, name, columns)) a 9 q.no_run status refl refl refl refl
-runs command name columns was is a (refused q status last why) = where_stopped (Some (command, name, columns)) a 7 q.no_run status refl refl refl refl
-runs command name columns was is a (unfit q status told text tells not) = where_stopped (Some (command, name, columns)) a 5 q.no_run status refl refl refl refl
-runs command name columns was is a (unfit_columns q status told run took file text named tells not) = where_stopped (Some (command, name, columns)) a 6 q.no_run status refl refl refl refl
+runs command name columns was is a (unreported run took told e finished status fault had) = where_run command name columns a run e finished (inr status)
+runs command name columns was is a (printed plain took told none status err) = where_printed command name columns a 0 plain none status refl refl refl
+runs command name columns was is a (unprinted plain took told none status fault) = where_printed command name columns a 8 plain none status refl refl refl
+runs command name columns was is a (wanting q status) = where_stopped (Some (command, name, columns)) a 9 q.no_run status refl refl refl refl refl
+runs command name columns was is a (refused q status last why) = where_stopped (Some (command, name, columns)) a 7 q.no_run status refl refl refl refl refl
+runs command name columns was is a (unfit q status told text tells not) = where_stopped (Some (command, name, columns)) a 5 q.no_run status refl refl refl refl refl
+runs command name columns was is a (unfit_columns q status told run took file text named tells not) = where_stopped (Some (command, name, columns)) a 6 q.no_run status refl refl refl refl refl
 
-end_by : (a : Answer) (e : RunEnd) → a.finished ≡ Some e → IsStatusOf e a.status → EndsByStatus a
-end_by a e finished by = subst (λ o. IfSome o (λ x. IsStatusOf x a.status)) (sym finished) by
+end_by : (a : Answer) (e : EndSeen) → a.finished ≡ Some e → IsStatusOf default_plan.limit e a.status → EndsByStatus a
+end_by a e finished by = subst (λ o. IfSome o (λ x. IsStatusOf default_plan.limit x a.status)) (sym finished) by
 
-shown : (e : RunEnd) (status : ℕ) → status ≡ status_of_ends e.roots → Shows e status → IsStatusOf e status
+shown : (e : EndSeen) (status : ℕ) → status ≡ status_of_ends e.roots → Shows default_plan.limit e status → IsStatusOf default_plan.limit e status
 shown e status by (all_numbers is each) = record {
   zero = λ h. each;
   one = λ h. other status 0 1 is h refl;
+  three = λ h. other status 0 3 is h refl;
   four = λ h. other status 0 4 is h refl;
   by_roots = λ no. by;
 }
 shown e status by (none_cut is any each) = record {
   zero = λ h. other status 1 0 is h refl;
   one = λ h. (any, each);
+  three = λ h. other status 1 3 is h refl;
   four = λ h. other status 1 4 is h refl;
   by_roots = λ no. by;
 }
-shown e status by (limited is any at) = record {
+shown e status by (some_null is any) = record {
+  zero = λ h. other status 3 0 is h refl;
+  one = λ h. other status 3 1 is h refl;
+  three = λ h. any;
+  four = λ h. other status 3 4 is h refl;
+  by_roots = λ no. by;
+}
+shown e status by (limited is any each met) = record {
   zero = λ h. other status 4 0 is h refl;
   one = λ h. other status 4 1 is h refl;
-  four = λ h. (any, at);
+  three = λ h. other status 4 3 is h refl;
+  four = λ h. (any, each, met);
   by_roots = λ no. by;
 }
 
 -- at 8 nothing is said
-unshown : (e : RunEnd) (status : ℕ) → status ≡ 8 → IsStatusOf e status
+unshown : (e : EndSeen) (status : ℕ) → status ≡ 8 → IsStatusOf default_plan.limit e status
 unshown e status is = record {
   zero = λ h. other status 8 0 is h refl;
   one = λ h. other status 8 1 is h refl;
+  three = λ h. other status 8 3 is h refl;
   four = λ h. other status 8 4 is h refl;
   by_roots = λ no. absurd (no is);
 }
 
 no_end : (a : Answer) → IsNone a.finished → EndsByStatus a
 no_end a none = by a.finished none where
-  by : (o : Option RunEnd) → IsNone o → IfSome o (λ x. IsStatusOf x a.status)
+  by : (o : Option EndSeen) → IsNone o → IfSome o (λ x. IsStatusOf default_plan.limit x a.status)
   by None n = tt
   by (Some x) n = cc
 
@@ -457,7 +476,7 @@ ends command name columns was is a (unfit_columns q status told run took file te
 none_causes : (was is : ShelfSeen) (a : Answer) → Quiet a → a.status ≡ 2 → StatusHasCause None was is a
 none_causes was is a q status = record {
   ends = no_end a q.no_run;
-  runs = where_stopped None a 2 q.no_run status refl refl refl refl;
+  runs = where_stopped None a 2 q.no_run status refl refl refl refl refl;
   zero_printed = λ h. other a.status 2 0 status h refl;
   run_suited = tt;
   two = ((λ h. refl), (λ h. status));
@@ -466,7 +485,7 @@ none_causes was is a q status = record {
   seven = λ h. other a.status 2 7 status h refl;
   eight = λ h. other a.status 2 8 status h refl;
   quiet = λ h. q.out;
-  silent = λ h. not_done_at a 2 status refl refl refl h;
+  silent = λ h. not_done_at a 2 status refl refl refl refl h;
 }
 
 pub status_has_cause : (choice : Option Choice) (was is : ShelfSeen) (a : Answer) → Does choice was is a → StatusHasCause choice was is a

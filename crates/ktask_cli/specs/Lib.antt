@@ -1,7 +1,8 @@
 pub mod Choice
 pub mod Plan
 pub mod Refusal
-pub mod Report
+pub mod Order
+pub mod RunStatus
 pub mod Io
 pub mod Stop
 pub mod Ready

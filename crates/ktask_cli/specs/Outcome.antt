@@ -1,19 +1,17 @@
 -- How a command ends: what it answers, and what the two sinks took.
 use Rattle.std.specs.Prelude.{◌≡◌, ℕ, ◌⊎◌, List, [], Option, Some, None, Result, MatchResult, IsNone}
-use Rattle.task_syntax.specs.declared.columns.Columns.{Columns}
-use Rattle.task_syntax.specs.declared.program.Program.{Program}
-use Rattle.plain_engine.specs.RunEnd.{RunEnd}
-use Rattle.plain_engine.specs.SoundEnd.{IsSoundEnd}
+use Rattle.record_core.specs.EndSeen.{EndSeen}
 use Rattle.ktask_cli.specs.declared.choice.Command.TheVariants.{Run, Check, Print}
 use Rattle.ktask_cli.specs.declared.stop.Stop.{Stop}
 use Rattle.ktask_cli.specs.declared.stop.Stop.TheVariants.{WordsRefused, WriteFault}
 use Rattle.ktask_cli.specs.declared.outcome.Outcome.{Outcome}
 use Rattle.ktask_cli.specs.Choice.{Choice}
 use Rattle.tool_io.specs.Count.{Rose}
+use Rattle.ktask_cli.specs.Order.{Order, default_order, IsRunOf, order_text}
 use Rattle.ktask_cli.specs.Plan.{Plan}
 use Rattle.ktask_cli.specs.Ready.{input_under, sizes_under, text_under}
 use Rattle.ktask_cli.specs.Refusal.{Tells, Told}
-use Rattle.ktask_cli.specs.Report.{report_of, status_of_ends}
+use Rattle.ktask_cli.specs.RunStatus.{status_of_ends}
 use Rattle.tool_io.specs.Seen.{ShelfSeen, SinkSeen}
 use Rattle.tool_io.specs.Sink.{Adds, AddsFront}
 use Rattle.ktask_cli.specs.Stop.{named_for}
@@ -21,7 +19,7 @@ use Rattle.ktask_cli.specs.Stop.{named_for}
 -- the status and the ended run that are answered, and the two sinks before and after
 pub record Answer : Type 0 where
   pub status : ℕ
-  pub finished : Option RunEnd
+  pub finished : Option EndSeen
   pub out_was : SinkSeen
   pub out_is : SinkSeen
   pub err_was : SinkSeen
@@ -58,12 +56,12 @@ pub record TakesFront (text : List ℕ) (a : Answer) : Type 0 where
 abbrev pub Writes : List ℕ → ℕ → Answer → Type 0
 Writes text status a = Takes text status a ⊎ TakesFront text a
 
--- the program was run with the columns, its end is sound, and its report was offered, with the status of its roots
-pub record Runs (input : Program × Columns) (a : Answer) : Type 0 where
-  pub end : RunEnd
+-- what was ordered was run to this end, and its text was offered, with the status of its roots
+pub record Runs (o : Order) (a : Answer) : Type 0 where
+  pub end : EndSeen
   pub finished : a.finished ≡ Some end
-  pub sound : IsSoundEnd input.0 input.1 end
-  pub offered : Writes (report_of input.0 end) (status_of_ends end.roots) a
+  pub run : IsRunOf o end
+  pub offered : Writes (order_text o end) (status_of_ends end.roots) a
 
 -- nothing was run, and the text was offered, with status 0
 pub record Prints (text : List ℕ) (a : Answer) : Type 0 where
@@ -85,6 +83,7 @@ pub record Reaches {Ready : Type 0} (plan : Plan Ready) (Ends : Ready → Answer
 -- what is done for a choice; where the words are refused, the shelf is not asked
 abbrev pub Does : Option Choice → ShelfSeen → ShelfSeen → Answer → Type 0
 Does None was is a = (is ≡ was) × Stops WordsRefused [] a
-Does (Some (Run, name, columns)) was is a = Reaches (input_under name columns) Runs (named_for name columns) was is a
+Does (Some (Run, name, columns)) was is a =
+    Reaches (input_under name columns) (λ input. Runs (default_order input)) (named_for name columns) was is a
 Does (Some (Check, name, columns)) was is a = Reaches (sizes_under name) Prints (λ stop. name) was is a
 Does (Some (Print, name, columns)) was is a = Reaches (text_under name) Prints (λ stop. name) was is a

@@ -1,24 +1,18 @@
 -- When each exit status comes. Want of memory, 9, may come in the place of any of them but 2 and those of a run.
-use Rattle.std.specs.Prelude.{◌≡◌, ℕ, ◌⊎◌, ◌↔◌, List, Option, Some, None, Ok, Err, IsOk, IsOkAnd, IsSome, IsSomeAnd, IfSome, IsTrue}
-use Rattle.std.specs.List.{list_any}
-use Rattle.task_syntax.specs.Places.{Each}
+use Rattle.std.specs.Prelude.{◌≡◌, ℕ, ◌⊎◌, ◌↔◌, List, Option, Some, None, Ok, Err, IsOk, IsOkAnd, IsSome, IsSomeAnd, IfSome}
 use Rattle.task_syntax.specs.Valid.{IsValid}
 use Rattle.task_syntax.specs.declared.program.Program.{Program}
-use Rattle.task_syntax.specs.declared.value.Value.TheVariants.{Number}
 use Rattle.task_reader.specs.Read.{program_in}
 use Rattle.column_input.specs.Records.{records_of}
 use Rattle.column_input.specs.Reading.{columns_in}
-use Rattle.plain_engine.specs.RunEnd.{RunEnd}
-use Rattle.plain_engine.specs.SoundEnd.{most_activations}
-use Rattle.plain_engine.specs.declared.end.RootEnd.{RootEnd}
-use Rattle.plain_engine.specs.declared.end.RootEnd.TheVariants.{Value, Cut}
 use Rattle.ktask_cli.specs.declared.choice.Command.{Command}
 use Rattle.ktask_cli.specs.declared.choice.Command.TheVariants.{Run, Check, Print}
 use Rattle.tool_io.specs.declared.fetch_error.FetchError.TheVariants.{Failed, TooLong}
 use Rattle.ktask_cli.specs.Choice.{Choice}
 use Rattle.tool_io.specs.Count.{Rose}
 use Rattle.ktask_cli.specs.Outcome.{Answer}
-use Rattle.ktask_cli.specs.Report.{status_of_ends, is_trap, is_limit}
+use Rattle.ktask_cli.specs.Order.{default_plan}
+use Rattle.ktask_cli.specs.RunStatus.{IsStatusOf}
 use Rattle.tool_io.specs.Seen.{ShelfSeen, Holds, HoldsMore}
 use Rattle.ktask_cli.specs.Stop.{longest_file}
 
@@ -104,38 +98,29 @@ RunForSuited (Some (command, name, columns)) was is a = command ≡ Run → IsFe
 abbrev pub QuietWhereRefused : Answer → Type 0
 QuietWhereRefused a = (a.status ≡ 2) ⊎ ((a.status ≡ 5) ⊎ ((a.status ≡ 6) ⊎ ((a.status ≡ 7) ⊎ (a.status ≡ 9)))) → a.out_is ≡ a.out_was
 
--- `err` took nothing at 0, 1 and 4
+-- the statuses that come for a run alone
+abbrev pub IsOfRunAlone : ℕ → Type 0
+IsOfRunAlone status = (status ≡ 1) ⊎ ((status ≡ 3) ⊎ (status ≡ 4))
+
+-- the statuses of a command whose text was taken
+abbrev pub IsDone : ℕ → Type 0
+IsDone status = (status ≡ 0) ⊎ IsOfRunAlone status
+
+-- `err` took nothing there
 abbrev pub SilentWhereDone : Answer → Type 0
-SilentWhereDone a = (a.status ≡ 0) ⊎ ((a.status ≡ 1) ⊎ (a.status ≡ 4)) → a.err_is ≡ a.err_was
+SilentWhereDone a = IsDone a.status → a.err_is ≡ a.err_was
 
 abbrev pub IsRun : Option Choice → Type 0
 IsRun None = ⊥
 IsRun (Some (command, name, columns)) = command ≡ Run
 
--- a run was reached exactly where one is asked for and the status is 0, 1, 4 or 8; 1 and 4 come only for a run
+-- a run was reached exactly where one is asked for and the text was taken, or `out` had a fault; 1, 3 and 4 come only for a run
 abbrev pub RunsAtStatus : Option Choice → Answer → Type 0
-RunsAtStatus choice a =
-    (IsSome a.finished ↔ (IsRun choice × ((a.status ≡ 0) ⊎ ((a.status ≡ 1) ⊎ ((a.status ≡ 4) ⊎ (a.status ≡ 8))))))
-    × ((a.status ≡ 1) ⊎ (a.status ≡ 4) → IsRun choice)
+RunsAtStatus choice a = (IsSome a.finished ↔ (IsRun choice × (IsDone a.status ⊎ (a.status ≡ 8)))) × (IsOfRunAlone a.status → IsRun choice)
 
-abbrev pub IsNumber : RootEnd → Type 0
-IsNumber (Value (Number n)) = Unit {0}
-IsNumber _ = ⊥
-
-abbrev pub IsUncut : RootEnd → Type 0
-IsUncut (Value v) = Unit {0}
-IsUncut (Cut tag from) = ⊥
-
--- What a run's status says of its end: at 0 each root is a number; at 1 some root is a trap, and none is cut; at 4 some
--- root is cut by the limit, which was met. All but 8 is the status of the roots.
-pub record IsStatusOf (e : RunEnd) (status : ℕ) : Type 0 where
-  pub zero : status ≡ 0 → Each e.roots IsNumber
-  pub one : status ≡ 1 → IsTrue (list_any is_trap e.roots) × Each e.roots IsUncut
-  pub four : status ≡ 4 → IsTrue (list_any is_limit e.roots) × (e.accepted ≡ most_activations)
-  pub by_roots : ¬ (status ≡ 8) → status ≡ status_of_ends e.roots
-
+-- the status of a run says what its end is
 abbrev pub EndsByStatus : Answer → Type 0
-EndsByStatus a = IfSome a.finished (λ e. IsStatusOf e a.status)
+EndsByStatus a = IfSome a.finished (λ e. IsStatusOf default_plan.limit e a.status)
 
 -- each status of an answer comes for its causes
 pub record StatusHasCause (choice : Option Choice) (was is : ShelfSeen) (a : Answer) : Type 0 where

@@ -4,15 +4,16 @@
 #[cfg(test)]
 mod check_tests;
 pub mod choice;
+mod columns;
+mod default_plan;
 mod fault_line;
 pub mod fetch_file;
-mod input;
 pub mod outcome;
 mod plain;
 mod program;
 pub mod refuse;
-pub mod report;
-mod root_line;
+mod run;
+mod run_status;
 pub mod stop;
 #[cfg(test)]
 mod tests;

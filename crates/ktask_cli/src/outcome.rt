@@ -1,7 +1,7 @@
 use plain_engine::PlainEnd;
 
 /// What the tool answers: its exit status, and the end of the run where one was reached.
-#[derive(Debug, Drop)]
+#[derive(Drop)]
 pub struct Outcome {
     pub status: u8,
     pub finished: Option<PlainEnd>,

@@ -1,75 +1,34 @@
-ghost use Rattle.std.specs.Prelude.{◌≡◌, IfOk, IfErr, map, option_copied, string_bytes};
-ghost use Rattle.std.specs.Result.{result_map_both};
-ghost use Rattle.plain_engine.specs.SoundEnd.{IsSoundEnd};
-ghost use Rattle.ktask_cli.specs.declared.stop.Stop.TheVariants.{WantOfMemory};
+ghost use Rattle.std.specs.Prelude.{◌≡◌, map, option_copied, string_bytes};
 ghost use Rattle.ktask_cli.specs.Choice.{choice_of};
+ghost use Rattle.ktask_cli.specs.Order.{IsRunOf, default_order};
 ghost use Rattle.ktask_cli.specs.Ready.{input_under};
 ghost use Rattle.ktask_cli.specs.Outcome.{Runs, Reaches, Does, answer};
 ghost use Rattle.ktask_cli.specs.Statuses.{StatusHasCause};
 ghost use Rattle.ktask_cli.specs.Stop.{named_for};
 
 use crate::choice::{Choice, Command, choose};
-use crate::input::{Input, fetch_input};
 use crate::outcome::Outcome;
 use crate::plain::do_plain;
 use crate::refuse::refuse;
-use crate::report::{status_of_ends, write_report};
+use crate::run::{Ran, fetch_and_run};
+use crate::run_status::status_of_ends;
 use crate::stop::{InputFile, Stop};
 use crate::write_text::status_written;
-use plain_engine::{PlainEnd, PlainRun};
+use run_report::write_report;
 use std::alloc::Global;
-use task_syntax::Memory;
 use tool_io::{Shelf, Sink};
-
-/// What was run, and the end of its run.
-#[derive(Debug, Drop)]
-struct Ran {
-    input: Input,
-    end: PlainEnd,
-}
-
-/// Runs a program with its columns.
-fn run(alloc: Global, input: Input) -> Result<Ran, Stop>
-    ensures sound { IfOk result (λ ran.
-        (ran.input ≡ input) × IsSoundEnd input.checked input.columns ran.end) }
-    ensures wants { IfErr result (λ stop. stop ≡ WantOfMemory) }
-{
-    match PlainRun::run(alloc, &input.checked, &input.columns) {
-        Ok(end) => Ok(Ran { input, end }),
-        Err(Memory) => Err(Stop::WantOfMemory),
-    }
-}
-
-/// Fetches, reads and checks a program, fetches and reads its columns, and runs it.
-fn reach<S: Shelf>(
-    alloc: Global,
-    program: &str,
-    columns: Option<&str>,
-    shelf: &mut S,
-) -> Result<Ran, Stop>
-    ensures follows { input_under program.now (option_copied columns.entry)
-        (S.seen shelf.old) (S.seen shelf.new)
-        (result_map_both (λ ran. (ran.input.checked, ran.input.columns)) (λ stop. stop) result) }
-    ensures sound { IfOk result (λ ran. IsSoundEnd ran.input.checked ran.input.columns ran.end) }
-{
-    match fetch_input(alloc, program, columns, shelf) {
-        Ok(input) => run(alloc, input),
-        Err(stop) => Err(stop),
-    }
-}
 
 /// Reports the end of a run on `out`, or the fault of `out` on `err`.
 fn report<O: Sink, E: Sink>(ran: Ran, out: &mut O, err: &mut E) -> Outcome
-    requires { IsSoundEnd ran.input.checked ran.input.columns ran.end }
-    ensures { Runs (ran.input.checked, ran.input.columns)
+    requires { IsRunOf (default_order (ran.checked, ran.columns)) ran.end }
+    ensures { Runs (default_order (ran.checked, ran.columns))
         (answer result (O.seen out.old) (O.seen out.new) (E.seen err.old) (E.seen err.new)) }
 {
-    let Ran { input, end } = ran;
-    let written = write_report(input.checked.program(), &end, out);
-    let due = status_of_ends(end.roots());
+    let written = write_report(&ran.end, &ran.checked, false, out);
+    let due = status_of_ends(&ran.end);
     Outcome {
         status: status_written(written, due, err),
-        finished: Some(end),
+        finished: Some(ran.end),
     }
 }
 
@@ -94,12 +53,13 @@ fn run_program<S: Shelf, O: Sink, E: Sink>(
     out: &mut O,
     err: &mut E,
 ) -> Outcome
-    ensures { Reaches (input_under program.now (option_copied columns.entry)) Runs
+    ensures { Reaches (input_under program.now (option_copied columns.entry))
+        (λ input. Runs (default_order input))
         (named_for program.now (option_copied columns.entry))
         (S.seen shelf.old) (S.seen shelf.new)
         (answer result (O.seen out.old) (O.seen out.new) (E.seen err.old) (E.seen err.new)) }
 {
-    match reach(alloc, program, columns, shelf) {
+    match fetch_and_run(alloc, program, columns, shelf) {
         Ok(ran) => report(ran, out, err),
         Err(stop) => {
             let name = named_for(&stop, program, columns);
@@ -111,13 +71,17 @@ fn run_program<S: Shelf, O: Sink, E: Sink>(
     }
 }
 
-/// Does what the words ask for. `run PROGRAM [COLUMNS]` fetches the program from the shelf, reads it and checks it, then
-/// fetches and reads the columns, where a file of them is named, runs the program, and writes how each root ended to
-/// `out`; `plain_tool` does the other commands. Where it stops before, one line on `err` says why.
+/// Does what the words ask for. `run PROGRAM [COLUMNS]` fetches the program from the shelf, reads
+/// it and checks it, then fetches and reads the columns, where a file of them is named, runs the
+/// program on one thread, in a pool of 256 superblocks of 512 units and for at most 1,000,000
+/// activations, and writes the report of the run to `out`; `plain_tool` does the other commands.
+/// Where it stops before, one line on `err` says why.
 ///
-/// The exit status is 0 where the command is done, and for a run each root is a number, 1 where some root is a trap, 4
-/// where some root was cut by the limit on activations, 2 for words that are refused, 5 for a program that is, 6 for
-/// columns that are, 7 for a file that cannot be read or is too long, 8 for a fault of `out`, and 9 for want of memory.
+/// The exit status is 0 where the command is done, and for a run each root is a number, 1 where
+/// some root is a trap and none is cut, 3 where some root is null, 4 where some is cut by the
+/// limit and none is null, 2 for words that are refused, 5 for a program that is, 6 for columns
+/// that are, 7 for a file that cannot be read or is too long, 8 for a fault of `out`, and 9 for
+/// want of memory.
 pub fn run_tool<S: Shelf, O: Sink, E: Sink>(
     alloc: Global,
     words: &[String],

@@ -67,6 +67,19 @@ const CELL: &str = "ktask 1\nkind one\n  var x\nstate s\n  cell x a 0\n  done x\
 
 const TWO_ROOTS: &str = "ktask 1\nkind one\nstate start\n  done 1\nend\nroot r one\nroot s one\n";
 
+const ONE_REPORT: &str = "root r 1\nactivations 1\ntasks 1\nnulls 0\nheld 1 0 0 0\n";
+
+// Two tasks that are called again without end, and a root that names what the second gives.
+const SPIN: &str = "ktask 1\nkind spin\nstate start\n  again start\nend\nkind reader @p\n  var x\n\
+    state start holds @p settled @p\n  get x @p\n  done x\nend\nroot r spin\nroot s reader @r behind @r\n";
+
+// A task that spawns wide tasks behind the gate, which opens only when there is nothing else to do.
+const FILL: &str = "ktask 1\nkind gate\nstate start\n  done 1\nend\nkind wide\n\
+    var v0 v1 v2 v3 v4 v5 v6 v7 v8 v9 v10 v11 v12 v13 v14 v15\n\
+    var v16 v17 v18 v19 v20 v21 v22 v23 v24 v25 v26 v27 v28 v29 v30 v31\n\
+    state start\n  done 0\nend\nkind fill @p\n  var @a\nstate start holds @p\n\
+    spawn @a wide behind @p\n  again start\nend\nroot g gate low\nroot f fill @g\n";
+
 // The status, and what `out` and `err` took.
 #[derive(Drop)]
 struct Told {
@@ -87,7 +100,7 @@ fn string_of(alloc: Global, text: &str) -> Result<String, AllocError> {
 }
 
 fn sink(alloc: Global, fail: &[u64]) -> Result<MemorySink, AllocError> {
-    match MemorySink::new(alloc, 4096, vec_of(alloc, fail)?) {
+    match MemorySink::new(alloc, 16_384, vec_of(alloc, fail)?) {
         Ok(sink) => Ok(sink),
         Err(_) => Err(AllocError),
     }
@@ -130,21 +143,45 @@ fn programs_are_run_checked_or_refused(rt: HostRuntime) -> Result<(), Fail> {
     let root_needs = "ktask: program line 13 check 4 StateNeeds @p\n";
     let too_large = "ktask: program line 2 check 5 FrameTooLarge big\n";
     let rows = [
-        ("run", ONE, 0, "root r 1\n", ""),
+        ("run", ONE, 0, ONE_REPORT, ""),
         (
             "run",
             ROOTS,
             1,
-            "root under trap overflow\nroot fine 7\n",
+            "root under trap overflow\nroot fine 7\nactivations 2\ntasks 2\nnulls 0\nheld 2 0 0 0\n",
             "",
         ),
-        ("run", FIB, 0, "root r 55\n", ""),
-        ("run", "ktask 1\n", 0, "", ""),
+        (
+            "run",
+            FIB,
+            0,
+            "root r 55\nactivations 353\ntasks 177\nnulls 0\nheld 1 0 0 0\n",
+            "",
+        ),
+        (
+            "run",
+            "ktask 1\n",
+            0,
+            "activations 0\ntasks 0\nnulls 0\nheld 0 0 0 0\n",
+            "",
+        ),
         ("run", "", 5, "", no_header),
         ("run", WIDE, 5, "", unknown),
         ("run", EARLY_GET, 5, "", not_settled),
-        ("run", MUL, 0, "root r 6\n", ""),
-        ("run", ALL, 0, "root r 1\n", ""),
+        (
+            "run",
+            MUL,
+            0,
+            "root r 6\nactivations 1\ntasks 1\nnulls 0\nheld 1 0 0 0\n",
+            "",
+        ),
+        (
+            "run",
+            ALL,
+            0,
+            "root r 1\nactivations 6\ntasks 4\nnulls 0\nheld 1 0 0 0\n",
+            "",
+        ),
         ("check", ALL, 0, "kinds 1 roots 1\n", ""),
         ("check", ROOTS, 0, "kinds 2 roots 2\n", ""),
         ("check", "ktask 1\n", 0, "kinds 0 roots 0\n", ""),
@@ -165,6 +202,57 @@ fn programs_are_run_checked_or_refused(rt: HostRuntime) -> Result<(), Fail> {
         let told = run_over(rt.alloc(), &[command, "p"], content, &[])?;
         assert_eq!(rt; told.status, status);
         assert_eq!(rt; told.out.bytes.as_slice(), out.as_bytes());
+        assert_eq!(rt; told.err.bytes.as_slice(), err.as_bytes());
+    }
+    Ok(())
+}
+
+// The report of `FILL`: the first superblock has the two roots, and each other one is full of wide tasks.
+fn full_report(alloc: Global) -> Result<String, AllocError> {
+    let mut text = string_of(
+        alloc,
+        "root g 1\nroot f null\nactivations 32642\ntasks 16322\nnulls 1\nheld 2 0 0 0\ncause f null 2\n\
+        evidence class 3\nsuperblock 0 class 0 2 of 512\n",
+    )?;
+    for superblock in 1..256 {
+        let line = format!(in alloc; "superblock {superblock} class 3 64 of 64\n")?;
+        text.push_str(line.as_str())?;
+    }
+    Ok(text)
+}
+
+#[test]
+fn roots_are_cut_where_the_pool_is_full_or_the_limit_met(rt: HostRuntime) -> Result<(), Fail> {
+    let full = full_report(rt.alloc())?;
+    let limit = "root r limit\nroot s limit\nactivations 1000000\ntasks 2\nnulls 0\nheld 2 0 0 0\n\
+        cause r limit 1\ncause s limit 2 1\n";
+    for (program, status, out) in [(FILL, 3, full.as_str()), (SPIN, 4, limit)] {
+        let content = vec_of(rt.alloc(), program.as_bytes())?;
+        let told = run_over(rt.alloc(), &["run", "p"], content, &[])?;
+        assert_eq!(rt; told.status, status);
+        assert_eq!(rt; told.out.bytes.as_slice(), out.as_bytes());
+        assert_eq!(rt; told.err.calls, 0);
+    }
+    Ok(())
+}
+
+#[test]
+fn a_sink_that_fails_has_the_lines_before(rt: HostRuntime) -> Result<(), Fail> {
+    let report = "root r 1\nactivations 6\ntasks 4\nnulls 0\nheld 1 0 0 0\n";
+    let rows: [(u64, usize, u8, &str); 6] = [
+        (1, 0, 8, "ktask: write fault\n"),
+        (2, 9, 8, "ktask: write fault\n"),
+        (3, 23, 8, "ktask: write fault\n"),
+        (4, 31, 8, "ktask: write fault\n"),
+        (5, 39, 8, "ktask: write fault\n"),
+        (6, 52, 0, ""),
+    ];
+    for (call, length, status, err) in rows {
+        let content = vec_of(rt.alloc(), ALL.as_bytes())?;
+        let told = run_over(rt.alloc(), &["run", "p"], content, &[call])?;
+        let (taken, _) = report.as_bytes().split_at(length);
+        assert_eq!(rt; told.status, status);
+        assert_eq!(rt; told.out.bytes.as_slice(), taken);
         assert_eq!(rt; told.err.bytes.as_slice(), err.as_bytes());
     }
     Ok(())
@@ -338,7 +426,7 @@ fn a_sink_of_single_bytes_gets_the_whole_report(rt: HostRuntime) -> Result<(), F
     assert_eq!(rt; outcome.status, 0);
     assert_eq!(rt;
         out.writer.taken.as_slice(),
-        b"root r 1\nroot s 1\n".as_slice()
+        b"root r 1\nroot s 1\nactivations 2\ntasks 2\nnulls 0\nheld 2 0 0 0\n".as_slice()
     );
     assert_eq!(rt; err.calls, 0);
     Ok(())
@@ -400,8 +488,26 @@ fn programs_see_columns(rt: HostRuntime) -> Result<(), Fail> {
     let prices = "id,price\n1,10\n2,20\n3,30\n4,40\n5,50\n";
     let none: &[u64] = &[];
     let rows = [
-        (SUM, "c", prices, none, 2, 0, "root total 150\n", ""),
-        (CELL, "c", "a\n", none, 2, 1, "root r trap norow\n", ""),
+        (
+            SUM,
+            "c",
+            prices,
+            none,
+            2,
+            0,
+            "root total 150\nactivations 23\ntasks 14\nnulls 0\nheld 1 0 0 0\n",
+            "",
+        ),
+        (
+            CELL,
+            "c",
+            "a\n",
+            none,
+            2,
+            1,
+            "root r trap norow\nactivations 1\ntasks 1\nnulls 0\nheld 1 0 0 0\n",
+            "",
+        ),
         (
             ONE,
             "c",

@@ -1,18 +1,20 @@
-pub mod Placed
-pub mod Entry
-pub mod Sums
-pub mod Along
-pub mod FutureFacts
-pub mod Steady
-pub mod Values
-pub mod Begin
-pub mod Calls
-pub mod Resume
-pub mod Gather
-pub mod UnderWay
-pub mod Named
-pub mod Earlier
-pub mod Roots
-pub mod Formed
-pub mod Straight
-pub mod Validity
+mod Acting
+mod AskedFacts
+mod CarriedOut
+mod EndFacts
+mod Finishing
+mod Gathering
+mod Lists
+mod RefusedRoot
+mod Respawning
+mod RootArguments
+mod RootEntered
+mod RootFacts
+mod RunningFacts
+mod SpawnWanted
+mod SpawnedRoot
+mod Spawning
+mod Starting
+mod StepLaws
+mod StoreSizes
+mod Turning

@@ -1,10 +1,5 @@
-pub mod Place
-pub mod Steps
-pub mod RunEnd
-pub mod Carried
-pub mod RootEnds
-pub mod SoundEnd
-pub mod SoFar
-pub mod Steady
-pub mod Stack
-pub mod Example
+pub mod EngineView
+pub mod Asking
+pub mod Ending
+pub mod Going
+pub mod Roots

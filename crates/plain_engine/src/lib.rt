@@ -1,24 +1,22 @@
-//! Task programs on one thread: each root, and each task that it spawns, is carried to its end at once.
+//! The run of a program on one thread: tasks in records of a pool, which wait for one another in
+//! lists and start from queues, each activation to its end.
 //!
-//! `specs/SoundEnd.antt` says which end of a run is sound, and `specs/RootEnds.antt` what a root takes from earlier ones.
+//! `plain_state` says what the state of an engine is, what each move does to it and when it stands
+//! for a state of the run. `specs/Asking.antt` says what comes of asking for a task,
+//! `specs/Ending.antt` how a task ends, `specs/Going.antt` what a turn does, and `specs/Roots.antt`
+//! what is asked for roots.
 #![tactic(auto)]
 
-mod advance;
-mod arithmetic;
-mod carry;
+mod arrive;
+mod ask;
+mod carry_out;
 mod end;
-mod event;
-mod instruction;
-mod lookup;
+mod engine;
+mod finish;
+mod respawn;
+mod roots;
 mod run;
-mod run_root;
-mod running;
-mod stack;
-mod start;
-mod taskless;
-#[cfg(test)]
-mod tests;
 mod turn;
 
-pub use end::{CutFrom, CutTag, LIMIT, PlainEnd, RootEnd};
+pub use end::PlainEnd;
 pub use run::PlainRun;

@@ -1,34 +1,39 @@
-ghost use Rattle.std.specs.Prelude.{IfOk};
-ghost use Rattle.task_syntax.specs.Form.{IsWellFormed};
-ghost use Rattle.task_syntax.specs.Valid.{IsValid};
-ghost use Rattle.plain_engine.specs.SoundEnd.{IsSoundEnd};
+ghost use Rattle.std.specs.Prelude.{◌≡◌, IfOk, length};
+ghost use Rattle.record_core.specs.EndFaithful.{EndFaithful};
+ghost use Rattle.record_core.specs.EndSeen.{plan_of};
+ghost use Rattle.record_core.specs.EndSound.{EndComplete, EndSound};
+ghost use Rattle.run_model.specs.End.{EndsAs};
+ghost use Rattle.plain_engine.specs.Going.{ComesToEnd, IsIdle};
+ghost use Rattle.plain_engine.specs.Roots.{AsksAll, MayAskAll};
 
 use crate::end::PlainEnd;
-use crate::run_root::run_root;
-use std::alloc::{AllocError, Global};
-use task_syntax::{Checked, Columns, Memory, Program};
+use crate::engine::Engine;
+use kt_words::Plan;
+use std::alloc::Global;
+use task_syntax::{Checked, Columns, Memory};
 
-/// Runs each root, in their order.
-fn run_roots(alloc: Global, program: &Program, columns: &Columns) -> Result<PlainEnd, AllocError>
-    requires formed { IsWellFormed program.now }
-    requires valid { IsValid program.now }
-    ensures { IfOk result (IsSoundEnd program.now columns.now) }
-{
-    let roots = program.roots.as_slice();
-    let mut ends = Vec::new(alloc);
-    let mut accepted = 0;
-    'roots: for root in roots {
-        let end = run_root(
-            alloc,
-            program,
-            columns,
-            root,
-            ends.as_slice(),
-            &mut accepted,
-        )?;
-        ends.push(end)?;
+impl Engine {
+    // Asks for each root, in their order.
+    fn ask_roots(&mut self, checked: &Checked)
+        requires { MayAskAll checked.now self.old }
+        ensures { AsksAll checked.now self.old self.new }
+    {
+        'roots: for root in checked.program().roots.as_slice() {
+            self.ask_root(checked, root);
+        }
     }
-    Ok(PlainEnd::new(ends, accepted))
+
+    // Turns, until none may start.
+    fn turns(&mut self, checked: &Checked, columns: &Columns)
+        requires { IsIdle checked.now columns.now self.old }
+        ensures { ComesToEnd checked.now columns.now self.old self.new }
+    {
+        'turns: loop {
+            if !self.turn(checked, columns) {
+                return;
+            }
+        }
+    }
 }
 
 /// The runs on one thread.
@@ -36,10 +41,25 @@ fn run_roots(alloc: Global, program: &Program, columns: &Columns) -> Result<Plai
 pub struct PlainRun;
 
 impl PlainRun {
-    /// Runs a program with columns to its end: each root, in their order, and what it spawns.
-    pub fn run(alloc: Global, checked: &Checked, columns: &Columns) -> Result<PlainEnd, Memory>
-        ensures { IfOk result (IsSoundEnd checked.now columns.now) }
+    /// Runs a program with columns to its end, within a plan. All memory is taken before the first
+    /// root is asked for.
+    pub fn run(
+        alloc: Global,
+        checked: &Checked,
+        columns: &Columns,
+        plan: Plan,
+    ) -> Result<PlainEnd, Memory>
+        requires { plan.roots ≡ length checked.now.roots }
+        ensures sound { IfOk result (EndSound checked.now columns.now (plan_of plan)) }
+        ensures answers { IfOk result (EndsAs checked.now columns.now (plan_of plan)) }
+        ensures faithful { IfOk result (EndFaithful checked.now) }
+        ensures complete { IfOk result (EndComplete checked.now columns.now (plan_of plan)) }
     {
-        Ok(run_roots(alloc, checked.program(), columns)?)
+        // The program is well formed and valid.
+        let _program = checked.program();
+        let mut engine = Engine::new(alloc, plan)?;
+        engine.ask_roots(checked);
+        engine.turns(checked, columns);
+        Ok(PlainEnd::new(plan.geometry, engine))
     }
 }

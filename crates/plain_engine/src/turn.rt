@@ -1,69 +1,85 @@
-ghost use Rattle.std.specs.Prelude.{◌≡◌, ◌≤◌, IfOk, [], ◌∷◌};
-ghost use Rattle.task_syntax.specs.Form.{IsWellFormed};
-ghost use Rattle.task_syntax.specs.Valid.{IsValid};
-ghost use Rattle.plain_engine.specs.Stack.{FitsFirst, IsResumed, IsStanding, IsTurn};
+ghost use Rattle.std.specs.Prelude.{◌≡◌, Some, slice_get};
+ghost use Rattle.frame_code.specs.Frames.{IsFrame};
+ghost use Rattle.plain_state.specs.Store.{frame_at};
+ghost use Rattle.plain_records.specs.Allocated.{HasFrame};
+ghost use Rattle.plain_engine.specs.Ending.{EndsCut, MayBeCut};
+ghost use Rattle.plain_engine.specs.Going.{IsIdle, IsRunning, MayStart, RunsToItsEnd};
+ghost use Rattle.plain_engine.specs.Going.{TakesNext, TakesStart, Turns, started};
 
-use crate::end::LIMIT;
-use crate::event::{Event, next_event};
-use crate::running::Running;
-use crate::stack::{Callers, Stack, Waiting};
-use std::alloc::{AllocError, Global};
-use task_syntax::{Columns, Program, Value};
+use crate::engine::Engine;
+use frame_code::{Frame, advance};
+use plain_state::{Outcome, Record};
+use record_core::{Cause, CutTag};
+use task_syntax::{Checked, Columns};
 
-/// What comes of a turn.
-#[derive(Debug, Drop)]
-pub enum Turn {
-    /// The stack goes on.
-    On(Stack),
-    /// The outermost task ended with a value, or was cut.
-    Over(Option<Value>),
-}
-
-/// Lets the innermost caller go on with what its call gave.
-fn resume(callers: Callers, end: Option<Value>) -> Turn
-    requires { FitsFirst callers }
-    ensures { IsResumed callers end result }
-{
-    let mut callers = callers;
-    match callers.pop() {
-        None => Turn::Over(end),
-        Some(waiting) => {
-            let Waiting { running, to } = waiting;
-            let mut top = running;
-            top.set_future(to, end);
-            Turn::On(Stack { top, callers })
+impl Engine {
+    /// Starts the next activation that may start, if there is one, and runs it to its end.
+    pub fn turn(&mut self, checked: &Checked, columns: &Columns) -> bool
+        requires { IsIdle checked.now columns.now self.old }
+        ensures turns { Turns checked.now columns.now self.old result self.new }
+        ensures fewer { TakesStart result self.old self.new }
+    {
+        let Some(unit) = self.take_next() else {
+            return false;
+        };
+        let record = self.begin(unit);
+        let frame = self.frame(unit);
+        match record.cut {
+            Some(tag) => self.cut(checked, unit, &frame, record.number, tag),
+            None => self.run(checked, columns, unit, frame),
         }
+        true
     }
-}
 
-/// Runs the task on top to its next event, and makes the stack that comes of it.
-pub fn take_turn(
-    alloc: Global,
-    program: &Program,
-    columns: &Columns,
-    stack: Stack,
-    accepted: &mut u32,
-) -> Result<Turn, AllocError>
-    requires formed { IsWellFormed program.now }
-    requires valid { IsValid program.now }
-    requires standing { IsStanding program.now columns.now stack accepted.old }
-    requires within { accepted.old ≤ LIMIT }
-    ensures { IfOk result (λ turn. IsTurn program.now columns.now stack accepted.old turn accepted.new) }
-{
-    let Stack { top, mut callers } = stack;
-    match next_event(alloc, program, columns, top, accepted)? {
-        Event::Calls { caller, to, callee } => {
-            callers.push(Waiting {
-                running: caller,
-                to,
-            })?;
-            Ok(Turn::On(Stack {
-                top: callee,
-                callers,
-            }))
+    // Takes the next task out of the queues, by its unit.
+    fn take_next(&mut self) -> Option<u32>
+        ensures { TakesNext self.old result self.new }
+    {
+        self.records.next_ready()
+    }
+
+    // The last activation of the task in a block begins.
+    fn begin(&mut self, unit: u32) -> Record
+        requires { MayStart self.old unit }
+        ensures record { slice_get self.old.store.records unit ≡ Some result }
+        ensures begun { self.new ≡ started result.number self.old }
+    {
+        let record = self.records.record(unit);
+        self.journal.begin(record.number);
+        record
+    }
+
+    // The frame of the task in a block.
+    fn frame(&self, unit: u32) -> Frame
+        requires { HasFrame self.now.store unit }
+        ensures { result.items ≡ frame_at self.now.store unit }
+    {
+        self.records.frame(unit)
+    }
+
+    // The started task is cut, as the task was that it is behind.
+    fn cut(&mut self, checked: &Checked, unit: u32, frame: &Frame, number: u32, tag: CutTag)
+        requires frame { IsFrame checked.now frame.now.items }
+        requires cut { MayBeCut checked.now self.old unit frame.now.items number tag }
+        ensures { EndsCut checked.now self.old unit frame.now.items number tag self.new }
+    {
+        let Some(after) = self.journal.activation(number).after else {
+            unreachable!();
+        };
+        self.finish(checked, unit, frame, Outcome::WasCut(tag), Cause::By(after));
+    }
+
+    // The started task runs until its activation ends.
+    fn run(&mut self, checked: &Checked, columns: &Columns, unit: u32, frame: Frame)
+        requires { IsRunning checked.now columns.now self.old unit frame.items }
+        ensures { RunsToItsEnd checked.now columns.now self.old unit frame.items self.new }
+    {
+        let mut frame = frame;
+        'acts: loop {
+            let act = advance(checked, columns, &mut frame);
+            if !self.carry_out(checked, unit, &mut frame, act) {
+                return;
+            }
         }
-        Event::Gathers(next) => Ok(Turn::On(Stack { top: next, callers })),
-        Event::Respawns(next) => Ok(Turn::On(Stack { top: next, callers })),
-        Event::Ends(end) => Ok(resume(callers, end)),
     }
 }

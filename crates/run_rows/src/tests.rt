@@ -1,0 +1,121 @@
+ghost use Rattle.std.specs.Prelude.{◌≡◌, IfOk, IfSome, length};
+ghost use Rattle.run_report.specs.CanReport.{CanReport};
+
+use crate::reported::report;
+use crate::samples::{SAMPLES, Sample};
+use kt_words::{Geometry, Plan};
+use plain_engine::{PlainEnd, PlainRun};
+use record_core::{CutTag, Ended, RootEnd};
+use std::alloc::{AllocError, Global};
+use std::test::Fail;
+use task_check::{CheckError, check};
+use task_reader::{ReadError, read_program};
+use task_syntax::{Checked, Columns};
+use tool_io::MemorySink;
+
+/// The program of a text, and none where it makes no valid one.
+fn program_of(alloc: Global, text: &str) -> Result<Option<Checked>, AllocError> {
+    if text.len() > 10_000 {
+        return Ok(None);
+    }
+    let program = match read_program(alloc, text.as_bytes()) {
+        Ok(program) => program,
+        Err(ReadError::Memory) => return Err(AllocError),
+        Err(ReadError::Fault { .. }) => return Ok(None),
+    };
+    match check(alloc, program) {
+        Ok(checked) => Ok(Some(checked)),
+        Err(CheckError::Memory) => Err(AllocError),
+        Err(CheckError::Fault { .. }) => Ok(None),
+    }
+}
+
+/// The plan of a program, where it is one.
+fn plan_of(checked: &Checked, superblocks: u32, units: u32, limit: u64) -> Option<Plan>
+    ensures { IfSome result (λ plan. plan.roots ≡ length checked.now.roots) }
+{
+    let geometry = Geometry::new(superblocks, units)?;
+    let roots = u8::try_from(checked.program().roots.len()).ok()?;
+    Plan::new(geometry, limit, roots)
+}
+
+/// The end of a run within a plan.
+fn run(alloc: Global, checked: &Checked, plan: Plan) -> Result<PlainEnd, AllocError>
+    requires { plan.roots ≡ length checked.now.roots }
+    ensures { IfOk result (λ end. CanReport checked.now end) }
+{
+    let columns = Columns::none(alloc);
+    match PlainRun::run(alloc, checked, &columns, plan) {
+        Ok(end) => Ok(end),
+        Err(_) => Err(AllocError),
+    }
+}
+
+/// A sample's program and the end of its run.
+fn run_of(alloc: Global, sample: &Sample) -> Result<Option<(Checked, PlainEnd)>, AllocError>
+    ensures { IfOk result (λ ran. IfSome ran (λ both. CanReport both.0 both.1)) }
+{
+    let Some(checked) = program_of(alloc, sample.program)? else {
+        return Ok(None);
+    };
+    let Some(plan) = plan_of(&checked, sample.superblocks, sample.units, sample.limit) else {
+        return Ok(None);
+    };
+    let end = run(alloc, &checked, plan)?;
+    Ok(Some((checked, end)))
+}
+
+fn sink(alloc: Global) -> Result<MemorySink, AllocError> {
+    match MemorySink::new(alloc, 8192, Vec::new(alloc)) {
+        Ok(sink) => Ok(sink),
+        Err(_) => Err(AllocError),
+    }
+}
+
+#[test]
+fn each_program_has_its_report(rt: HostRuntime) -> Result<(), Fail> {
+    'samples: for sample in &SAMPLES {
+        let (checked, end) = run_of(rt.alloc(), sample)?.ok_or("no run")?;
+        let mut out = sink(rt.alloc())?;
+        let written = report(&end, &checked, sample.trace, &mut out);
+        assert!(rt; written.is_ok());
+        assert_eq!(rt; out.bytes.as_slice(), sample.report.as_bytes());
+    }
+    Ok(())
+}
+
+/// A task that runs 600,000 activations more.
+const DOWN: &str = "ktask 1\nkind down n\nstate start\nif n == 0 goto out\nsub n n 1\nagain start\n\
+    label out\ndone 7\nend\nroot p down 600000\nroot q down 600000";
+
+fn roots_of(alloc: Global, behind: &str) -> Result<Option<PlainEnd>, AllocError> {
+    let mut text = String::new(alloc);
+    text.push_str(DOWN)?;
+    text.push_str(behind)?;
+    let Some(checked) = program_of(alloc, text.as_str())? else {
+        return Ok(None);
+    };
+    let Some(plan) = plan_of(&checked, 256, 512, 1_000_000) else {
+        return Ok(None);
+    };
+    Ok(Some(run(alloc, &checked, plan)?))
+}
+
+#[test]
+fn roots_share_the_limit(rt: HostRuntime) -> Result<(), Fail> {
+    let one = roots_of(rt.alloc(), " behind @p\n")?.ok_or("no run")?;
+    assert!(rt; is_seven(&one, 0));
+    assert!(rt; is_limit(&one, 1));
+    let both = roots_of(rt.alloc(), "\n")?.ok_or("no run")?;
+    assert!(rt; is_limit(&both, 0));
+    assert!(rt; is_limit(&both, 1));
+    Ok(())
+}
+
+fn is_seven(end: &PlainEnd, root: u8) -> bool {
+    root < end.root_count() && end.root(root) == RootEnd::Value(task_syntax::Value::Number(7))
+}
+
+fn is_limit(end: &PlainEnd, root: u8) -> bool {
+    root < end.root_count() && matches!(end.root(root), RootEnd::Cut(CutTag::Limit, _))
+}
