@@ -1,5 +1,5 @@
 -- What a pass holds after an answer of the pool.
-use Rattle.std.proofs.Common.{◌≡◌, ℕ, suc, List, [], ◌∷◌, refl, sym, ap, subst}
+use Rattle.std.proofs.Common.{◌≡◌, ℕ, suc, List, ◌∷◌, refl, sym, ap, subst}
 use Rattle.record_core.specs.Counting.{Has}
 use Rattle.kt_words.specs.declared.plan.Plan.{Plan}
 use Rattle.table_core.specs.Holdings.{Block as BlockOf}

@@ -1,2 +1,4 @@
-pub mod Holding
+pub mod NewestFacts
 pub mod Searching
+pub mod GoingRound
+pub mod Holding

@@ -1,7 +1,6 @@
 -- A search that has seen more, and what it finds in the end.
-use Rattle.std.proofs.Common.{◌≡◌, ◌∙◌, ◌⊎◌, inl, inr, ℕ, zero, suc, ◌+◌, ◌/◌, ◌<◌, ◌≤◌, Bool, true, cond, Some, None, List, [], ◌∷◌, ◌++◌, append_assoc, refl, sym, ap, subst, arith}
-use Rattle.std.proofs.lemmas.Bool.{cases_eq}
-use Rattle.record_core.specs.Counting.{At, Has, dropped}
+use Rattle.std.proofs.Common.{◌≡◌, ◌∙◌, ℕ, ◌/◌, ◌<◌, ◌≤◌, Bool, true, cond, List, [], ◌∷◌, ◌++◌, append_assoc, refl, sym, ap, subst, true≢false, arith}
+use Rattle.record_core.specs.Counting.{dropped}
 use Rattle.kt_words.specs.declared.plan.Plan.{Plan}
 use Rattle.kt_words.specs.declared.super_word.SuperWord.{SuperWord}
 use Rattle.kt_words.specs.SuperWords.{FitsSuperWord, packed_super, class_of, count_of}
@@ -20,25 +19,14 @@ use Rattle.step_table.specs.declared.tokens.Reserved.{Reserved}
 use Rattle.step_table.specs.declared.tokens.Block.{Block}
 use Rattle.step_table.specs.Passes.{view, place_of, block_of, IsSame, HasPlace}
 use Rattle.step_table.specs.Steps.{Looks, Reserves, Claims}
-use Rattle.memory_pool.specs.Searches.{like, Grows, SeesMore, IsFull, SawNoRoom, SawNoneBelow, FindsPlace, SeesNoRoom, TurnsInto}
-use Rattle.memory_pool.specs.Answers.{Gives}
+use Rattle.memory_pool.specs.Searches.{like, Grows, SeesMore, IsFull, OnlySaw, LooksAt, FindsPlace, SeesNoRoom, Tries, FindsOnce, SeesNone, GoesRound, TurnsInto}
+use Rattle.memory_pool.specs.declared.found.Found.{Found}
+use Rattle.memory_pool.specs.declared.found.Found.TheVariants as found
+use Rattle.memory_pool.proofs.NewestFacts.{newest-here, newest-other, saw-with-older, kept-is-new}
+use Rattle.memory_pool.specs.declared.allocated.Allocated.TheVariants as allocated
+use Rattle.memory_pool.specs.Answers.{Gives, KeepsRefusal}
 
 module _ {A : Type 0} where
-  has-left : (x : A) (l more : List A) → Has x l → Has x (l ++ more)
-  has-left x l more has = (has.0, at l has.0 has.1)
-    where
-      at : (l : List A) (k : ℕ) → At l k x → At (l ++ more) k x
-      at [] k e = absurd (none e)
-        where
-          none : None ≡ Some x → ⊥
-          none e = cc
-      at (y ∷ l) zero e = e
-      at (y ∷ l) (suc k) e = at l k e
-
-  has-right : (x : A) (l more : List A) → Has x more → Has x (l ++ more)
-  has-right x [] more has = has
-  has-right x (y ∷ l) more has = let later = has-right x l more has in (suc later.0, later.1)
-
   grows-self : (l : List A) → Grows l l
   grows-self l = ([], refl)
 
@@ -61,14 +49,14 @@ sees-more-on old mid new first second = record {
 }
 
 same-on : (old mid new : Pass) → IsSame old mid → IsSame mid new → IsSame old new
-same-on old mid new first second = record { table = second.table ∙ first.table; id = second.id ∙ first.id; splits = second.splits ∙ first.splits }
+same-on old mid new first second = record { table = second.table ∙ first.table; id = second.id ∙ first.id; splits = second.splits ∙ first.splits; number = second.number ∙ first.number }
 
 pub like-on : (old mid new : View) → mid ≡ like mid old → new ≡ like new mid → new ≡ like new old
 like-on old mid new first second = second ∙ ap (like new) first
 
 pub sees-self : (p : Pass) → OnlySees p p
 sees-self p = record {
-  same = record { table = refl; id = refl; splits = refl };
+  same = record { table = refl; id = refl; splits = refl; number = refl };
   stays = refl;
   later = record { looks = grows-self (view p).looks; steps = grows-self (view p).seen };
 }
@@ -98,27 +86,41 @@ look-sees i c word p q same e = record {
   };
 }
 
--- a look that saw no room ends the search of one superblock
-pub finds-no-room : (g : Plan) (i c : ℕ) (word : SuperWord) (old p q : Pass) → FitsSuperWord word → OnlySees old p → IsSame p q → Looks i c p word q → IsFull g word c → SeesNoRoom g i c old q
-finds-no-room g i c word old p q fits before same e full =
-    let says : SuperWordSays (packed_super word) word.count word.class word.ever = (super_word_says_its_value word fits).0 in
-    let look : Look = look_of i c (packed_super word) (view p) in
-    let all : OnlySees old q = sees-on old p q before (look-sees i c word p q same e) in
-    record {
-      stays = all.stays;
-      added = look ∷ before.later.looks.0;
-      since = ap (λ (w : View). w.looks) e ∙ ap (λ (l : List Look). look ∷ l) before.later.looks.1;
-      saw = record {
-        look = look;
-        there = (0, refl);
-        at_superblock = refl;
-        for_class = refl;
-        no_room = no_room_of full says;
-      };
-    }
+-- looks that are all at one superblock
+pub at-self : (i : ℕ) (p : Pass) → LooksAt i p p
+at-self i p = record { added = []; since = refl; elsewhere = λ j other. refl }
+
+pub at-step : (i n : ℕ) (a : Addr) (old p q : Pass) → LooksAt i old p → view q ≡ saw a n (view p) → LooksAt i old q
+at-step i n a old p q before e = record { added = before.added; since = ap (λ (w : View). w.looks) e ∙ before.since; elsewhere = before.elsewhere }
+
+pub at-look : (i c : ℕ) (word : SuperWord) (old p q : Pass) → LooksAt i old p → Looks i c p word q → LooksAt i old q
+at-look i c word old p q before e = record {
+  added = look ∷ before.added;
+  since = ap (λ (w : View). w.looks) e ∙ ap (λ (l : List Look). look ∷ l) before.since;
+  elsewhere = λ j other. newest-other j look before.added (λ same. other (sym same)) ∙ before.elsewhere j other;
+}
   where
-    no_room_of : IsFull g word c → SuperWordSays (packed_super word) word.count word.class word.ever → IsWithoutRoom g.geometry.units c (class_of (packed_super word)) (count_of (packed_super word))
-    no_room_of full says = subst (λ (k : ℕ). IsWithoutRoom g.geometry.units c k (count_of (packed_super word))) (sym says.class_is)
+    look : Look
+    look = look_of i c (packed_super word) (view p)
+
+-- a look that saw no room ends the search of one superblock
+pub finds-no-room : (g : Plan) (i c : ℕ) (word : SuperWord) (old p q : Pass) → FitsSuperWord word → OnlySees old p → LooksAt i old p → IsSame p q → Looks i c p word q → IsFull g word c
+    → SeesNoRoom g i c old q
+unfolding at-look
+finds-no-room g i c word old p q fits before at same e full = record {
+  stays = (sees-on old p q before (look-sees i c word p q same e)).stays;
+  looks = at-look i c word old p q at e;
+  saw = record { look = look; newest_is = newest-here i look at.added refl; for_class = refl; no_room = no_room };
+}
+  where
+    look : Look
+    look = look_of i c (packed_super word) (view p)
+
+    says : SuperWordSays (packed_super word) word.count word.class word.ever
+    says = (super_word_says_its_value word fits).0
+
+    no_room : IsWithoutRoom g.geometry.units c (class_of (packed_super word)) (count_of (packed_super word))
+    no_room = subst (λ (k : ℕ). IsWithoutRoom g.geometry.units c k (count_of (packed_super word))) (sym says.class_is)
         (subst (λ (k : ℕ). IsWithoutRoom g.geometry.units c word.class k) (sym says.count_is) full)
 
 -- a reservation ends it too
@@ -170,41 +172,61 @@ block-later g now b old p q won before claims = sees-more-on (view old) (view p)
   steps = grows-one (bits now.superblock (b / 64), claims.found) (view p).seen (view q).seen (ap (λ (w : View). w.seen) claims.view_is);
 })
 
--- a superblock that had no room leaves the pass as it was, but for what it saw
-pub no-room-sees : (g : Plan) (i c : ℕ) (p q : Pass) → IsSame p q → SeesMore (view p) (view q) → SeesNoRoom g i c p q → OnlySees p q
-no-room-sees g i c p q same later none = record { same = same; stays = none.stays; later = later }
-
-pub saw-none-zero : (g : Plan) (c : ℕ) (l : List Look) → SawNoneBelow g c 0 l l
-saw-none-zero g c l = record { added = []; since = refl; each = λ i below. absurd (omega (arith, below)) }
-
--- one superblock more without room
-pub saw-none-next : (g : Plan) (c n : ℕ) (old : List Look) (p q : Pass) → SawNoneBelow g c n old (view p).looks → SeesNoRoom g n c p q → SawNoneBelow g c (n + 1) old (view q).looks
-saw-none-next g c n old p q before none = record {
-  added = none.added ++ before.added;
-  since = none.since ∙ ap (λ (l : List Look). none.added ++ l) before.since ∙ sym (append_assoc none.added before.added old);
-  each = λ i below. by i below (cases_eq i n);
-}
+-- what a try leaves, where it reserves nothing
+pub try-sees : (g : Plan) (i c : ℕ) (changes : Bool) (p q : Pass) (tried : Found) → IsSame p q → SeesMore (view p) (view q) → Tries g i c changes p tried q → ((won : Reserved) → tried ≡ found.Place won → ⊥)
+    → OnlySees p q
+try-sees g i c changes p q tried same later tries none = record { same = same; stays = by tried tries none; later = later }
   where
-    wider : (i : ℕ) → SawNoRoom g c i before.added → SawNoRoom g c i (none.added ++ before.added)
-    wider i s = record { look = s.look; there = has-right s.look none.added before.added s.there; at_superblock = s.at_superblock; for_class = s.for_class; no_room = s.no_room }
+    by : (t : Found) → Tries g i c changes p t q → ((won : Reserved) → t ≡ found.Place won → ⊥) → OnlySaw p q
+    by (found.Place won) tries none = absurd (none won refl)
+    by (found.Empty at) tries none = tries.2
+    by found.Nothing tries none = tries.stays
 
-    newest : SawNoRoom g c n none.added → SawNoRoom g c n (none.added ++ before.added)
-    newest s = record { look = s.look; there = has-left s.look none.added before.added s.there; at_superblock = s.at_superblock; for_class = s.for_class; no_room = s.no_room }
+-- a search that may change classes leaves no empty superblock
+pub none-left : (g : Plan) (c : ℕ) (p q : Pass) (tried : Found) → GoesRound g c true p tried q → ((won : Reserved) → tried ≡ found.Place won → ⊥) → SeesNone g c p q
+none-left g c p q (found.Place won) goes none = absurd (none won refl)
+none-left g c p q (found.Empty at) goes none = absurd (true≢false goes.0)
+none-left g c p q found.Nothing goes none = goes
 
-    by : (i : ℕ) → i < n + 1 → (i ≡ n) ⊎ (i ≡ n → ⊥) → SawNoRoom g c i (none.added ++ before.added)
-    by i below (inl e) = subst (λ (k : ℕ). SawNoRoom g c k (none.added ++ before.added)) (sym e) (newest none.saw)
-    by i below (inr ne) = wider i (before.each i (omega (arith, below, ne)))
+-- a search that goes on behind another
+pub finds-on : (g : Plan) (c : ℕ) (old p q : Pass) (won : Reserved) → OnlySaw old p → FindsOnce g c p won q → FindsOnce g c old won q
+finds-on g c old p q won saw_only finds = record {
+  superblock = finds.superblock;
+  near = finds.near;
+  place = record {
+    place_is = finds.place.place_is;
+    view_is = finds.place.view_is ∙ ap (λ (v : View). reserved (place finds.superblock c) (like (view q) v)) saw_only;
+  };
+}
+
+pub sees-none-on : (g : Plan) (c : ℕ) (old p q : Pass) → OnlySaw old p → SeesMore (view old) (view p) → SeesNone g c p q → SeesNone g c old q
+sees-none-on g c old p q saw_only later none = record {
+  stays = like-on (view old) (view p) (view q) saw_only none.stays;
+  saw = record {
+    added = none.saw.added ++ later.looks.0;
+    since = none.saw.since ∙ ap (λ (l : List Look). none.saw.added ++ l) later.looks.1 ∙ sym (append_assoc none.saw.added later.looks.0 (view old).looks);
+    each = λ i near. saw-with-older g c i none.saw.added later.looks.0 (none.saw.each i near);
+  };
+}
 
 -- a place that becomes a block is what an allocation gives
-pub gives : (g : Plan) (i c : ℕ) (old p q r : Pass) (won : Reserved) (b : Block) → i < g.geometry.superblocks → c ≤ 3 → OnlySees old p → FindsPlace i c p won q → TurnsInto g won q b r
-    → Gives g c (view old) (block_of b) (view r)
-gives g i c old p q r won b near fits before place_found turns = record {
+pub gives : (g : Plan) (c : ℕ) (old q r : Pass) (won : Reserved) (b : Block) → c ≤ 3 → FindsOnce g c old won q → TurnsInto g won q b r → Gives g c (view old) (block_of b) (view r)
+gives g c old q r won b fits finds turns = record {
   is_block = subst (λ (u : ℕ). IsBlock g u c) (sym (ap (λ (x : BlockOf). x.unit) block_is)) (block_there g i c turns.bit near fits below);
   of_class = ap (λ (x : BlockOf). x.class) block_is;
   fresh = ap (λ (x : BlockOf). x.fresh) block_is;
   view_is = turns.view_is ∙ from_start ∙ (λ k. leaves (kept k) (sym block_is k) (sym its_place k));
 }
   where
+    i : ℕ
+    i = finds.superblock
+
+    near : i < g.geometry.superblocks
+    near = finds.near
+
+    place_found : FindsPlace i c old won q
+    place_found = finds.place
+
     near_is : won.superblock ≡ i
     near_is = ap (λ (x : Place). x.superblock) place_found.place_is
 
@@ -226,5 +248,13 @@ gives g i c old p q r won b near fits before place_found turns = record {
     kept : cond (is_place (place i c) (place i c)) (view old).reserved (place i c ∷ dropped (is_place (place i c)) (view old).reserved) ≡ (view old).reserved
     kept = ap (λ (t : Bool). cond t (view old).reserved (place i c ∷ dropped (is_place (place i c)) (view old).reserved)) (place-passes (place i c))
 
-    from_start : claimed g (place_of won) turns.bit (like (view r) (view q)) ≡ claimed g (place i c) turns.bit (like (view r) (reserved (place i c) (like (view q) (like (view p) (view old)))))
-    from_start = λ k. claimed g (place_found.place_is k) turns.bit (like (view r) ((place_found.view_is ∙ ap (λ (v : View). reserved (place i c) (like (view q) v)) before.stays) k))
+    from_start : claimed g (place_of won) turns.bit (like (view r) (view q)) ≡ claimed g (place i c) turns.bit (like (view r) (reserved (place i c) (like (view q) (view old))))
+    from_start = λ k. claimed g (place_found.place_is k) turns.bit (like (view r) (place_found.view_is k))
+
+-- what the pass keeps where each superblock was seen without room
+pub keeps-refusal : (g : Plan) (c : ℕ) (old new : Pass) → SeesNone g c old new → KeepsRefusal g c allocated.Null new
+keeps-refusal g c old new none i near =
+    let saw = none.saw.each i near in
+    let newest_is = kept-is-new i (view old) (view new) none.saw.added saw.look old.ages (ap (λ (v : View). v.old_looks) none.stays) none.saw.since saw.newest_is in
+    let kept = new.looks i saw.look newest_is in
+    (kept.1 ∙ saw.for_class, subst (λ (n : ℕ). IsWithoutRoom g.geometry.units c (class_of n) (count_of n)) (sym kept.0) saw.no_room)

@@ -1,10 +1,14 @@
 -- What an allocation answers.
-use Rattle.std.specs.Prelude.{◌≡◌, ℕ, ◌∷◌, true}
+use Rattle.std.specs.Prelude.{◌≡◌, ℕ, ◌<◌, ◌∷◌, ⊤, true, slice_index}
+use Rattle.kt_words.specs.Capacity.{IsWithoutRoom}
+use Rattle.kt_words.specs.SuperWords.{class_of, count_of}
 use Rattle.kt_words.specs.declared.plan.Plan.{Plan}
 use Rattle.table_core.specs.Holdings.{Block as BlockOf}
 use Rattle.table_core.specs.Pool.{IsBlock, superblock_of}
 use Rattle.table_core.specs.Views.{place}
 use Rattle.table_core.specs.declared.view.View.{View}
+use Rattle.step_table.specs.declared.last_looks.LastLooks.{LastLooks}
+use Rattle.step_table.specs.declared.pass.Pass.{Pass}
 use Rattle.step_table.specs.Passes.{block_of}
 use Rattle.memory_pool.specs.declared.allocated.Allocated.{Allocated}
 use Rattle.memory_pool.specs.declared.allocated.Allocated.TheVariants as allocated
@@ -25,3 +29,14 @@ pub record Refuses (g : Plan) (c : ℕ) (old new : View) : Type 0 where
 abbrev pub Allocates : Plan → ℕ → View → Allocated → View → Type 0
 Allocates g c old (allocated.Block b) new = Gives g c old (block_of b) new
 Allocates g c old allocated.Null new = Refuses g c old new
+
+-- what is kept of superblock i is a look for class c that saw no room
+abbrev pub KeepsNoRoom : Plan → ℕ → ℕ → LastLooks → Type 0
+KeepsNoRoom g c i last =
+    (slice_index last.classes i ≡ c)
+    × IsWithoutRoom g.geometry.units c (class_of (slice_index last.words i)) (count_of (slice_index last.words i))
+
+-- after a null answer the pass keeps such a look of each superblock
+abbrev pub KeepsRefusal : Plan → ℕ → Allocated → Pass → Type 0
+KeepsRefusal g c (allocated.Block b) p = ⊤
+KeepsRefusal g c allocated.Null p = (i : ℕ) → i < g.geometry.superblocks → KeepsNoRoom g c i p.last

@@ -3,8 +3,12 @@
 #![tactic(auto)]
 
 mod allocated;
+mod claims;
+mod found;
 mod pool;
 mod search;
+#[cfg(test)]
+mod step_tests;
 #[cfg(test)]
 mod tests;
 

@@ -2,10 +2,11 @@ ghost use Rattle.std.specs.Prelude.{◌≤◌};
 ghost use Rattle.step_table.specs.Passes.{view, plan, IsOf, IsSame, block_of, HasBlock};
 ghost use Rattle.step_table.specs.Steps.{Releases};
 ghost use Rattle.memory_pool.specs.Searches.{SeesMore};
-ghost use Rattle.memory_pool.specs.Answers.{Allocates};
+ghost use Rattle.memory_pool.specs.Answers.{Allocates, KeepsRefusal};
 
 use crate::allocated::Allocated;
-use crate::search::{claim_in, reserve_in};
+use crate::claims::claim_in;
+use crate::search::find;
 use std::sync::Wait;
 use step_table::{Block, Pass, Shared};
 
@@ -17,13 +18,12 @@ pub fn allocate(shared: &Shared, rt: &impl Wait, pass: &mut Pass, class: u8) -> 
     ensures pass { IsSame pass.old pass.new }
     ensures later { SeesMore (view pass.old) (view pass.new) }
     ensures answer { Allocates (plan shared.now) class (view pass.old) result (view pass.new) }
+    ensures last { KeepsRefusal (plan shared.now) class result pass.new }
 {
-    for superblock in 0..shared.plan().geometry.superblocks {
-        if let Some(reserved) = reserve_in(shared, rt, pass, superblock, class) {
-            return Allocated::Block(claim_in(shared, rt, pass, reserved));
-        }
+    match find(shared, rt, pass, class) {
+        Some(reserved) => Allocated::Block(claim_in(shared, rt, pass, reserved)),
+        None => Allocated::Null,
     }
-    Allocated::Null
 }
 
 /// Gives a block back.

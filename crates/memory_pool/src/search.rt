@@ -1,12 +1,13 @@
-//! One superblock is tried, and one reserved place turned into a block.
+//! Superblocks are tried one after the other, until a place is reserved.
 ghost use Rattle.std.specs.Prelude.{◌≡◌, ◌<◌, ◌≤◌, IsTrue, IfSome, IfNone};
-ghost use Rattle.kt_words.specs.Capacity.{capacity};
-ghost use Rattle.step_table.specs.Passes.{view, plan, place_of, IsOf, IsSame, HasPlace, TakesOne};
-ghost use Rattle.memory_pool.specs.Searches.{SeesMore, FindsPlace, SeesNoRoom, IsFull, TurnsInto};
+ghost use Rattle.step_table.specs.Passes.{view, plan, IsOf, IsSame, TakesOne};
+ghost use Rattle.memory_pool.specs.Searches.{SeesMore, IsFull, Tries, Follows, IsFirstEmpty};
+ghost use Rattle.memory_pool.specs.Searches.{GoesRound, FindsOnce, SeesNone};
 
+use crate::found::Found;
 use kt_words::{Plan, SuperWord};
 use std::sync::Wait;
-use step_table::{Block, Pass, Reserved, Shared};
+use step_table::{Pass, Reserved, Shared};
 
 // Whether a superblock with this word has room for one more block of the class.
 fn has_room(plan: &Plan, word: SuperWord, class: u8) -> bool
@@ -18,73 +19,122 @@ fn has_room(plan: &Plan, word: SuperWord, class: u8) -> bool
     fits && u32::from(word.count) < plan.geometry.cap(class)
 }
 
-/// Reserves a place in one superblock, as long as it has room.
-pub fn reserve_in(
+// Reserves a place in one superblock, as long as it has room. An empty one whose class would change
+// is left where `changes` is not set.
+fn try_in(
     shared: &Shared,
     rt: &impl Wait,
     pass: &mut Pass,
     superblock: u32,
     class: u8,
-) -> Option<Reserved>
+    changes: bool,
+) -> Found
     requires table { IsOf shared.now pass.old }
     requires superblock { superblock < (plan shared.now).geometry.superblocks }
     requires class { class ≤ 3 }
     ensures pass { IsSame pass.old pass.new }
     ensures later { SeesMore (view pass.old) (view pass.new) }
-    ensures some { IfSome result (λ won. FindsPlace superblock class pass.old won pass.new) }
-    ensures none { IfNone result (SeesNoRoom (plan shared.now) superblock class pass.old pass.new) }
+    ensures answer { Tries (plan shared.now) superblock class changes pass.old result pass.new }
 {
     let plan = shared.plan();
     for _ in rt.forever() {
         let seen = shared.look(pass, superblock, class);
         if !has_room(&plan, seen, class) {
-            return None;
+            return Found::Nothing;
+        }
+        if !changes && seen.class != class {
+            return Found::Empty(superblock);
         }
         if let Ok(reserved) = shared.reserve(pass, superblock, seen, class) {
-            return Some(reserved);
+            return Found::Place(reserved);
         }
     }
     unreachable!()
 }
 
-// The bit to try after this one was found set: a clear one of the word that was found, or else the
-// first of the next word.
-fn next_bit(found: u64, bit: u32, room: u32) -> u32
-    requires few { room ≤ 512 }
-    requires some { 0 < room }
-    requires inside { bit < room }
-    ensures { result < room }
+// The first empty superblock that was left.
+fn first_empty(before: Option<u32>, found: &Found) -> Option<u32>
+    ensures { IsFirstEmpty before found.now result }
 {
-    let first = bit / 64 * 64;
-    let clear = first + found.trailing_ones();
-    if clear < first + 64 && clear < room {
-        clear
-    } else if first + 64 < room {
-        first + 64
+    match (before, found) {
+        (None, Found::Empty(superblock)) => Some(*superblock),
+        _ => before,
+    }
+}
+
+// The superblock after this one, and the first after the last.
+fn next(superblock: u32, superblocks: u32) -> u32
+    requires { superblock < superblocks }
+    ensures after { Follows superblocks superblock result }
+    ensures inside { result < superblocks }
+{
+    if superblock + 1 < superblocks {
+        superblock + 1
     } else {
         0
     }
 }
 
-/// Turns a reserved place into a block.
-pub fn claim_in(shared: &Shared, rt: &impl Wait, pass: &mut Pass, reserved: Reserved) -> Block
+// Tries each superblock once, from this one on.
+fn go_round(
+    shared: &Shared,
+    rt: &impl Wait,
+    pass: &mut Pass,
+    class: u8,
+    start: u32,
+    changes: bool,
+) -> Found
     requires table { IsOf shared.now pass.old }
-    requires hand { HasPlace (plan shared.now) (place_of reserved) (view pass.old).reserved }
+    requires start { start < (plan shared.now).geometry.superblocks }
+    requires class { class ≤ 3 }
     ensures pass { IsSame pass.old pass.new }
     ensures later { SeesMore (view pass.old) (view pass.new) }
-    ensures block { TurnsInto (plan shared.now) reserved pass.old result pass.new }
+    ensures answer { GoesRound (plan shared.now) class changes pass.old result pass.new }
 {
-    let room = shared.plan().geometry.cap(reserved.class());
-    let mut reserved = reserved;
-    let mut bit = 0;
-    for _ in rt.forever() {
-        match shared.claim(pass, reserved, bit) {
-            Ok(block) => return block,
-            Err((back, found)) => {
-                reserved = back;
-                bit = next_bit(found, bit, room);
-            }
+    let superblocks = shared.plan().geometry.superblocks;
+    let mut superblock = start;
+    let mut empty = None;
+    for turn in 0..superblocks {
+        let found = try_in(shared, rt, pass, superblock, class, changes);
+        if let Found::Place(reserved) = found {
+            return Found::Place(reserved);
         }
+        empty = first_empty(empty, &found);
+        superblock = next(superblock, superblocks);
     }
-    unreachable!()
+    match empty {
+        Some(superblock) => Found::Empty(superblock),
+        None => Found::Nothing,
+    }
+}
+
+// Where a search begins: where the pass last found room for the class.
+fn start_of(shared: &Shared, pass: &Pass, class: u8) -> u32
+    requires { class ≤ 3 }
+    ensures { result < (plan shared.now).geometry.superblocks }
+{
+    let superblocks = shared.plan().geometry.superblocks;
+    let start = pass.start(class);
+    if start < superblocks { start } else { 0 }
+}
+
+/// Reserves a place for a block of the class. An empty superblock changes its class only where no
+/// superblock of the class was seen with room.
+pub fn find(shared: &Shared, rt: &impl Wait, pass: &mut Pass, class: u8) -> Option<Reserved>
+    requires table { IsOf shared.now pass.old }
+    requires class { class ≤ 3 }
+    ensures pass { IsSame pass.old pass.new }
+    ensures later { SeesMore (view pass.old) (view pass.new) }
+    ensures some { IfSome result (λ won. FindsOnce (plan shared.now) class pass.old won pass.new) }
+    ensures none { IfNone result (SeesNone (plan shared.now) class pass.old pass.new) }
+{
+    let start = start_of(shared, pass, class);
+    match go_round(shared, rt, pass, class, start, false) {
+        Found::Place(reserved) => Some(reserved),
+        Found::Nothing => None,
+        Found::Empty(superblock) => match go_round(shared, rt, pass, class, superblock, true) {
+            Found::Place(reserved) => Some(reserved),
+            _ => None,
+        },
+    }
 }

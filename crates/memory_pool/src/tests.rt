@@ -15,8 +15,9 @@ use task_syntax::{Checked, Columns, List, Name, Program};
 const ROUNDS: u32 = 10_000;
 
 // A table for a program without kinds and roots.
-fn table(alloc: Global, geometry: Geometry) -> Result<(Shared, Pass), Fail>
-    ensures { IfOk result (λ made. IsOf made.0 made.1 × (view made.1 ≡ first_view) × (made.1.splits ≡ 4095)) }
+pub fn table(alloc: Global, geometry: Geometry) -> Result<(Shared, Pass), Fail>
+    ensures pass { IfOk result (λ made. IsOf made.0 made.1 × (view made.1 ≡ first_view)) }
+    ensures splits { IfOk result (λ made. made.1.splits ≡ 4095) }
 {
     let plan = Plan::new(geometry, 1, 0).ok_or("no plan")?;
     let program = Program {
@@ -78,7 +79,7 @@ fn spin_all<R: Threads + Wait + Sync>(rt: &R, shared: &Shared, pass: Pass, threa
         requires { IsSync R.row × IsOf shared.now kept × HasOnlyBlocks (view kept) × (threads ≤ kept.splits + 2) × (1 < threads) }
         ensures { IsOf shared.entry.now result × HasOnlyBlocks (view result) × (result.splits ≡ kept.splits) }
     { spin_all(rt, shared, kept, threads - 1) };
-    let (other, kept) = join(rt, one, rest);
+    let (kept, other) = join(rt, rest, one);
     shared.join(kept, other)
 }
 
@@ -108,6 +109,8 @@ fn gives_and_takes_back(rt: HostRuntime) -> Result<(), Fail> {
     let Allocated::Null = allocate(&shared, &rt, &mut pass, 2) else {
         panic!(rt; "a third block")
     };
+    assert_eq!(rt; pass.last_look(0).word, 1 + 3 * 65_536 + 1_048_576);
+    assert_eq!(rt; pass.last_look(1).word, 1 + 1_048_576);
     release(&shared, &mut pass, first);
     let Allocated::Block(third) = allocate(&shared, &rt, &mut pass, 2) else {
         panic!(rt; "no third block")

@@ -1,1 +1,5 @@
 pub mod Stepping
+pub mod LooksFacts
+pub mod RecordStepping
+pub mod TurnFacts
+pub mod Naming

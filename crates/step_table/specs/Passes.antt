@@ -36,6 +36,7 @@ pub record IsSame (old new : Pass) : Type 0 where
   pub table : new.seat.table_id ≡ old.seat.table_id
   pub id : new.seat.id ≡ old.seat.id
   pub splits : new.splits ≡ old.splits
+  pub number : new.number ≡ old.number
 
 -- what the values name
 abbrev pub place_of : Reserved → Place

@@ -22,6 +22,14 @@ MayStep g seat a f told = Keeps g seat.id seat.me.0 a f told
 abbrev pub less_by : ℕ → ℕ → ℕ
 less_by k n = (n + (2 ^ 64 - k)) % 2 ^ 64
 
+-- k more, of a number of 64 bits
+abbrev pub more_by : ℕ → ℕ → ℕ
+more_by k n = (n + k) % 2 ^ 64
+
+-- k, whatever it was
+abbrev pub always : ℕ → ℕ → ℕ
+always k n = k
+
 -- the word lies at this address
 pub record LiesAt (g : Plan) (a : Addr) (word : ℕ) : Type 0 where
   pub place : word ≡ address g a

@@ -1,5 +1,5 @@
 -- What each step of the pool tells, of its pass before it and after.
-use Rattle.std.specs.Prelude.{◌≡◌, ◌≢◌, ℕ, ◌/◌, ◌%◌, true}
+use Rattle.std.specs.Prelude.{◌≡◌, ◌≢◌, ℕ, ◌/◌, ◌%◌, true, slice_set}
 use Rattle.std.specs.Int.{bit_at}
 use Rattle.kt_words.specs.declared.plan.Plan.{Plan}
 use Rattle.kt_words.specs.declared.super_word.SuperWord.{SuperWord}
@@ -17,10 +17,11 @@ use Rattle.step_table.specs.Passes.{view, place_of, owed_by, block_of}
 abbrev pub Looks : ℕ → ℕ → Pass → SuperWord → Pass → Type 0
 Looks i c old word new = view new ≡ saw (super i) (packed_super word) (looked i c (packed_super word) (view old))
 
--- the word was as it was seen, and a place is reserved
+-- the word was as it was seen, and a place is reserved; searches for the class begin here
 pub record Reserves (i c : ℕ) (seen : SuperWord) (old : Pass) (won : Reserved) (new : Pass) : Type 0 where
   pub place_is : place_of won ≡ place i c
   pub view_is : view new ≡ saw (super i) (packed_super seen) (reserved (place i c) (view old))
+  pub start_is : new.starts ≡ slice_set old.starts c i
 
 -- the word was another, and nothing else has changed
 pub record FindsOther (i : ℕ) (seen : SuperWord) (old : Pass) (word : SuperWord) (new : Pass) : Type 0 where

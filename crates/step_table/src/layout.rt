@@ -5,7 +5,7 @@ ghost use Rattle.step_table.specs.Layout.{superblock_words_of};
 
 use kt_words::{Geometry, Plan};
 
-fn units(geometry: &Geometry) -> usize
+pub(crate) fn units(geometry: &Geometry) -> usize
     ensures product { result ≡ geometry.now.superblocks * geometry.now.units }
     ensures few { result ≤ 524288 }
 {
@@ -20,7 +20,7 @@ fn bit_words_of(geometry: &Geometry) -> usize
 }
 
 // The words of all superblocks, with their bits.
-fn superblock_words(geometry: &Geometry) -> usize
+pub(crate) fn superblock_words(geometry: &Geometry) -> usize
     ensures sum { result ≡ superblock_words_of geometry.now }
     ensures few { result ≤ 16384 }
 {

@@ -7,6 +7,7 @@
 #![tactic(auto)]
 
 mod halves;
+mod last_looks;
 mod layout;
 mod making;
 mod order;
@@ -14,10 +15,21 @@ mod pass;
 mod passes;
 mod pool;
 mod raw;
+mod raw_records;
+mod record_layout;
+mod record_tokens;
+mod records;
+mod references;
+mod roots;
 mod shared;
 mod tokens;
 mod told;
+mod turn;
 
+pub use last_looks::LastLook;
 pub use pass::Pass;
+pub use record_tokens::{Finishing, Future, Linkable, Made, OwnWord, Retiring, Started};
+pub use roots::RootWord;
 pub use shared::Shared;
 pub use tokens::{Block, Debt, Reserved};
+pub use turn::NamedRoot;

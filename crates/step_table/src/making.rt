@@ -1,9 +1,11 @@
 ghost use Rattle.std.specs.Prelude.{◌≡◌, length, IfOk};
 ghost use Rattle.table_core.specs.Views.{first_view};
 
+use crate::last_looks::LastLooks;
 use crate::layout::words;
 use crate::pass::Pass;
 use crate::shared::Shared;
+use crate::turn::Turn;
 use atomic_table::Table;
 use kt_words::Plan;
 use std::alloc::{AllocError, Global};
@@ -24,7 +26,7 @@ impl Shared {
         requires roots { plan.roots ≡ length checked.roots }
         ensures setup { IfOk result (λ made. IsMadeWith made.0 checked columns plan) }
         ensures pass { IfOk result (λ made. IsOf made.0 made.1 × (view made.1 ≡ first_view)) }
-        ensures splits { IfOk result (λ made. made.1.splits ≡ 4095) }
+        ensures numbers { IfOk result (λ made. (made.1.splits ≡ 4095) × (made.1.number ≡ 0)) }
     {
         let setup = Setup {
             checked,
@@ -34,7 +36,15 @@ impl Shared {
         let zeros = Vec::from_elem(alloc, 0u64, words(&setup.plan))?;
         let (table, seat) = Table::of_words(alloc, zeros.as_slice(), &setup)?;
         let shared = Shared { table, setup };
-        let pass = Pass { seat, splits: 4095 };
+        let pass = Pass {
+            seat,
+            splits: 4095,
+            number: 0,
+            starts: [0; 4],
+            last: LastLooks::none(),
+            held: 0,
+            turn: Some(Turn::first()),
+        };
         Ok((shared, pass))
     }
 

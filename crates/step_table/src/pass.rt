@@ -1,5 +1,10 @@
-ghost use Rattle.std.specs.Prelude.{◌≡◌, ◌+◌, ◌≤◌, []};
+ghost use Rattle.std.specs.Prelude.{◌≡◌, ◌+◌, ◌<◌, ◌≤◌, [], length, slice_index};
+ghost use Rattle.table_core.specs.Holdings.{Look};
+ghost use Rattle.step_table.specs.LastLooks.{KeepsNewest, IsNewest};
+ghost use Rattle.step_table.specs.Turns.{turn_of};
 
+use crate::last_looks::{LastLook, LastLooks};
+use crate::turn::{NamedRoot, Turn};
 use atomic_table::Seat;
 use table_core::View;
 
@@ -9,8 +14,21 @@ use table_core::View;
 pub struct Pass {
     pub(crate) seat: Seat<(), View>,
     pub(crate) splits: u32,
+    // Where the pass begins what it may begin anywhere: a number that differs from pass to pass,
+    // and of each class the superblock where it last found room.
+    pub(crate) number: u32,
+    pub(crate) starts: [u32; 4],
+    pub(crate) last: LastLooks,
+    // How many references it has.
+    pub(crate) held: u64,
+    // What it knows of the roots, where it has the turn of asking for them.
+    pub(crate) turn: Option<Turn>,
     pub ghost bare: { seat.me.1 ≡ [] },
     pub ghost shares: { splits + 1 ≡ seat.me.0.parts },
+    pub ghost counts: { held ≡ length seat.me.0.futures },
+    pub ghost turns: { turn_of turn ≡ seat.me.0.turn },
+    pub ghost ages: { seat.me.0.old_looks ≤ length seat.me.0.looks },
+    pub ghost looks: { KeepsNewest last seat.me.0.old_looks seat.me.0.looks },
 }
 
 impl Pass {
@@ -20,5 +38,36 @@ impl Pass {
         ensures { result ≡ self.now.splits }
     {
         self.splits
+    }
+
+    /// A number that differs from pass to pass, for what a pass may begin at any place.
+    pub fn number(&self) -> u32
+        ensures { result ≡ self.now.number }
+    {
+        self.number
+    }
+
+    /// How many references the pass has.
+    pub fn held(&self) -> u64
+        ensures count { result ≡ self.now.held }
+        ensures references { result ≡ length self.now.seat.me.0.futures }
+    {
+        self.held
+    }
+
+    /// The superblock where this pass last reserved a place of the class.
+    pub fn start(&self, class: u8) -> u32
+        requires { class ≤ 3 }
+        ensures { result ≡ slice_index self.now.starts class }
+    {
+        self.starts[class as usize]
+    }
+
+    /// The last look at a superblock since the last null answer.
+    pub fn last_look(&self, superblock: u32) -> LastLook
+        requires { superblock < 1024 }
+        ensures { IsNewest superblock self.now.seat.me.0 result }
+    {
+        self.last.at(superblock)
     }
 }

@@ -25,6 +25,7 @@ impl Shared {
     {
         let word = super_word(&self.setup.plan, superblock);
         let found = self.load_as::<Brand, _>(&mut pass.seat, word, &(superblock, class));
+        pass.last.keep(superblock, found, class);
         SuperWord::of(found)
     }
 
@@ -58,6 +59,7 @@ impl Shared {
             &(superblock, class),
         );
         if found == old {
+            pass.starts[class as usize] = superblock;
             Ok(Reserved { superblock, class })
         } else {
             Err(SuperWord::of(found))

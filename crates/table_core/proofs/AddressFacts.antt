@@ -166,7 +166,8 @@ rebuilt-kind (journal n j) = refl
 rebuilt-kind (evidence i) = refl
 rebuilt-kind (sum k) = refl
 
-same-is : (a b : Addr) → is_same a b ≡ true → a ≡ b
+-- two words that are the same are one
+pub same-is : (a b : Addr) → is_same a b ≡ true → a ≡ b
 same-is a b same = let t = same_parts a b same in sym (rebuilt-kind a) ∙ (λ i. rebuilt (t.0 i) (t.1 i) (t.2 i)) ∙ rebuilt-kind b
 
 -- a word that is written as it was

@@ -1,26 +1,33 @@
 -- A pass is joined into another: the rule is kept.
-use Rattle.std.proofs.Common.{◌≡◌, ◌≢◌, ◌∙◌, ℕ, ◌+◌, ◌≤◌, List, map, length, refl, sym, ap, subst, arith, length-append}
-use Rattle.std.specs.Prelude.{slice_set}
+use Rattle.std.proofs.Common.{◌≡◌, ◌≢◌, ◌∙◌, ℕ, ◌+◌, ◌*◌, ◌≤◌, List, map, length, refl, sym, ap, subst, arith, length-append}
+use Rattle.std.specs.Prelude.{slice_set, slice_index}
 use Rattle.std.proofs.lemmas.List.{map-set}
 use Rattle.atomic_table.specs.Table.{Joins}
 use Rattle.record_core.specs.Sums.{total}
 use Rattle.record_core.proofs.TotalFacts.{total-set_two, total-append, slice_get-set_other}
 use Rattle.kt_words.specs.SuperWords.{class_of}
-use Rattle.table_core.specs.Addresses.{Mem, super, state, mem_of}
-use Rattle.record_core.specs.Counting.{At, one_if}
+use Rattle.kt_words.specs.Capacity.{block_units}
+use Rattle.frame_code.specs.Frames.{frame_length}
+use Rattle.table_core.specs.Addresses.{Mem, super, state, refs, root, frame_in, mem_of}
+use Rattle.record_core.specs.Counting.{At, one_if, times}
 use Rattle.table_core.specs.Lists.{Each, hit, hit3}
-use Rattle.table_core.specs.Holdings.{Place, Block, Look}
+use Rattle.table_core.specs.Holdings.{Place, Block, Look, Run, Done}
 use Rattle.table_core.specs.Story.{Story}
 use Rattle.table_core.specs.Pool.{Hand, IsBlock, superblock_of, bit_of, places, owns, bit_in}
 use Rattle.table_core.specs.Wins.{Won, Looked, IsLook, at_place}
-use Rattle.table_core.specs.Bounds.{IsBounded}
+use Rattle.table_core.specs.Bounds.{IsBounded, Numbered}
+use Rattle.table_core.specs.References.{Bag}
+use Rattle.table_core.specs.Own.{Hands, made_at, runs_at, done_at, record_words}
+use Rattle.table_core.specs.Roots.{Turn}
 use Rattle.table_core.specs.Views.{joined, spent, with_wins, HasOnlyBlocks}
-use Rattle.table_core.specs.Parts.{Part, pool, shares, bounds, wins, looks, evers, Seen, seen, unnumbered, Says, AllSay}
+use Rattle.table_core.specs.Parts.{Part, pool, shares, bounds, wins, looks, evers, references, fits, own, roots, shaped, numbers, Seen, seen, unnumbered, Says, AllSay}
 use Rattle.table_core.specs.declared.setup.Setup.{Setup}
 use Rattle.table_core.specs.declared.view.View.{View}
 use Rattle.table_core.proofs.ListFacts.{found, at_map, map_at, each-set, each-append, each-none}
 use Rattle.table_core.proofs.PoolFacts.{pool-same}
 use Rattle.table_core.proofs.WinSteps.{look-kept}
+use Rattle.table_core.proofs.ReferenceFacts.{referred-same}
+use Rattle.table_core.proofs.OwnFacts.{IsHand, knows-nothing, hands-from, own-from}
 use Rattle.table_core.proofs.Rule.{holds_at}
 
 module _ (g : Setup) (m : Mem) (vs : List View) (s : Story) (l : AllSay g s m vs) (id other : ℕ) (v w : View) (at : At vs id v) (at' : At vs other w) (apart : id ≢ other) (in_use : 1 ≤ v.parts) (only : HasOnlyBlocks w) where
@@ -53,8 +60,8 @@ module _ (g : Setup) (m : Mem) (vs : List View) (s : Story) (l : AllSay g s m vs
   same_wins : (i c : ℕ) → total (λ (u : Looked). at_place i c u.wins) (after looks) ≡ total (λ (u : Looked). at_place i c u.wins) (map (seen looks) vs)
   same_wins i c = sum-same looks (λ (u : Looked). at_place i c u.wins) (omega (arith, total-append (λ (r : Place). hit r.superblock r.class i c) w.wins v.wins)) refl
 
-  look-same : (own : List Place) (x : Look) → IsLook g.plan (λ i. m (super i)) (map (seen looks) vs) own x → IsLook g.plan (λ i. m (super i)) (after looks) own x
-  look-same own x = look-kept g.plan (λ i. m (super i)) (λ i. m (super i)) (map (seen looks) vs) (after looks) own own x (omega arith) (omega (arith, same_wins x.superblock (class_of x.word)))
+  look-same : (mine : List Place) (x : Look) → IsLook g.plan (λ i. m (super i)) (map (seen looks) vs) mine x → IsLook g.plan (λ i. m (super i)) (after looks) mine x
+  look-same mine x = look-kept g.plan (λ i. m (super i)) (λ i. m (super i)) (map (seen looks) vs) (after looks) mine mine x (omega arith) (omega (arith, same_wins x.superblock (class_of x.word)))
 
   -- a look of one pass counts the wins of the other, now that they are its own
   look-both : (u o : View) (x : Look) → ((i c : ℕ) → at_place i c one.wins ≡ at_place i c u.wins + at_place i c o.wins)
@@ -107,6 +114,37 @@ module _ (g : Setup) (m : Mem) (vs : List View) (s : Story) (l : AllSay g s m vs
     sum-same evers (λ (n : ℕ). n)
         (omega (arith, total-append (λ (b : Block). one_if b.fresh) w.blocks v.blocks, ap length only.reserved, ap unnumbered only.made)) refl,
   )
+  joined_parts references = referred-same g.checked g.plan (λ u. m (state u)) (λ u. m (refs u)) (λ r. m (root r)) (frame_in m) (map (seen references) vs) (after references)
+      (λ u. sum-same references (λ (b : Bag). times u b.futures) (omega (arith, ap (times u) only.futures)) refl)
+      (λ u. sum-same references (λ (b : Bag). times u b.done) (omega (arith, ap (λ (ds : List Done). times u (map (λ (d : Done). d.unit) ds)) only.done)) refl)
+      (λ u. sum-same references (λ (b : Bag). times u b.retiring) (omega (arith, ap (times u) only.retiring)) refl) (l references)
+  joined_parts fits = record {
+    saved = (l fits).saved;
+    running = each-after fits (Each (λ (r : Run). frame_length g.checked (slice_index r.words 0) ≤ 8 * block_units r.class)) (l fits).running
+        ((l fits).running id (seen fits v) (at_map (seen fits) vs id v at)) (each-none _);
+  }
+  joined_parts own =
+      let hands = hands-from g.plan (λ i. m (super i)) (λ u. m (state u)) (record_words m) (map (seen own) vs) (l own) in
+      own-from g.plan (λ i. m (super i)) (λ u. m (state u)) (record_words m) (after own)
+      (λ u. sum-same own (λ (h : Hands). made_at u h.made) (omega (arith, ap (made_at u) only.made)) refl ∙ (l own).made u)
+      (λ u. sum-same own (λ (h : Hands). runs_at u h.runs) (omega (arith, ap (runs_at u) only.runs)) refl ∙ (l own).running u)
+      (λ u. omega (arith, sum-same own (λ (h : Hands). done_at u h.done) (omega (arith, ap (done_at u) only.done)) refl, (l own).done u))
+      (each-after own (IsHand g.plan (λ i. m (super i)) (λ u. m (state u)) (record_words m)) hands (hands id (seen own v) (at_map (seen own) vs id v at))
+      (record { classes = each-none _; run_classes = each-none _; numbers = each-none _; known = λ a n e. absurd (knows-nothing a n e) }))
+  joined_parts roots =
+      let mine = at_map (seen roots) vs id v at in let its = at_map (seen roots) vs other w at' in record {
+        one = sum-same roots (λ (t : Turn). length t.turn) (omega (arith, length-append w.turn v.turn)) refl ∙ (l roots).one;
+        says = each-after roots _ (l roots).says (each-append _ w.turn v.turn ((l roots).says other (seen roots w) its) ((l roots).says id (seen roots v) mine)) (each-none _);
+        few = each-after roots _ (l roots).few (each-append _ w.turn v.turn ((l roots).few other (seen roots w) its) ((l roots).few id (seen roots v) mine)) (each-none _);
+        near = each-after roots _ (l roots).near (each-append _ w.turn v.turn ((l roots).near other (seen roots w) its) ((l roots).near id (seen roots v) mine)) (each-none _);
+        skipped = each-after roots _ (l roots).skipped (each-append _ w.turn v.turn ((l roots).skipped other (seen roots w) its) ((l roots).skipped id (seen roots v) mine)) (each-none _);
+        known = each-after roots _ (l roots).known (omega (arith, (l roots).known id (seen roots v) mine, (l roots).known other (seen roots w) its)) (omega arith);
+      }
+  joined_parts shaped = l shaped
+  joined_parts numbers = record {
+    taken = omega (arith, sum-same numbers (λ (n : Numbered). n.taken) (omega (arith, length-append w.taken v.taken)) refl, (l numbers).taken);
+    calls = omega (arith, sum-same numbers (λ (n : Numbered). n.calls) (omega (arith, length-append w.calls v.calls)) refl, (l numbers).calls);
+  }
 
   pub joined-says : (q : Part) → Says g q s m (map (seen q) (slice_set (slice_set vs id one) other spent))
   joined-says q = subst (Says g q s m) (sym (map-set (seen q) (slice_set vs id one) other spent ∙ ap (λ (xs : List (Seen q)). slice_set xs other (seen q spent)) (map-set (seen q) vs id one))) (joined_parts q)

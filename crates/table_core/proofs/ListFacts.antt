@@ -97,6 +97,23 @@ module _ {A : Type 0} where
       by false e rest zero at = absurd (true≢false (sym passes ∙ ap p (sym (same_some y x at)) ∙ e))
       by false e rest (suc k) at = omega (arith, rest k at)
 
+  -- no sum and no length grows where a member goes
+  pub total-dropped_le : (f : A → ℕ) (p : A → Bool) (l : List A) → total f (dropped p l) ≤ total f l
+  total-dropped_le f p [] = omega arith
+  total-dropped_le f p (x ∷ l) = by (p x) (total-dropped_le f p l)
+    where
+      by : (b : Bool) → total f (dropped p l) ≤ total f l → total f (cond b l (x ∷ dropped p l)) ≤ f x + total f l
+      by true h = omega arith
+      by false h = omega (arith, h)
+
+  pub length-dropped_le : (p : A → Bool) (l : List A) → length (dropped p l) ≤ length l
+  length-dropped_le p [] = omega arith
+  length-dropped_le p (x ∷ l) = by (p x) (length-dropped_le p l)
+    where
+      by : (b : Bool) → length (dropped p l) ≤ length l → length (cond b l (x ∷ dropped p l)) ≤ suc (length l)
+      by true h = omega arith
+      by false h = omega (arith, h)
+
   pub at_map : {B : Type 0} (f : A → B) (l : List A) (k : ℕ) (x : A) → At l k x → At (map f l) k (f x)
   at_map f [] k x at = absurd (none_at x at)
   at_map f (y ∷ l) zero x at = ap (λ (z : A). Some (f z)) (same_some y x at)

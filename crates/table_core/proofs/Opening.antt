@@ -1,19 +1,26 @@
 -- The rule holds of a table whose words are all 0, with its first pass.
-use Rattle.std.proofs.Common.{◌≡◌, ◌∙◌, ℕ, zero, suc, ◌%◌, Bool, true, false, cond, ◌==◌, [], ◌∷◌, map, replicate, get_or, refl, sym, subst, arith}
+use Rattle.std.proofs.Common.{◌≡◌, ◌∙◌, ℕ, zero, suc, ◌+◌, ◌%◌, Bool, true, false, cond, ◌==◌, [], ◌∷◌, map, replicate, get_or, refl, sym, ap, subst, true≢false, arith}
 use Rattle.std.specs.Prelude.{nat_lt}
 use Rattle.std.proofs.lemmas.List.{length-replicate}
+use Rattle.std.proofs.lemmas.Bool.{ne_eqb}
 use Rattle.std.proofs.lemmas.Nat.Bits.{bit_at-zero}
 use Rattle.record_core.specs.Sums.{below}
+use Rattle.record_core.specs.Counting.{one_if}
+use Rattle.record_core.proofs.BelowFacts.{below-same}
+use Rattle.record_core.proofs.TotalFacts.{none_there}
 use Rattle.kt_words.specs.declared.plan.Plan.{Plan}
-use Rattle.table_core.specs.Addresses.{Addr, Mem, super, state, address, words_of, is_there, mem_of}
+use Rattle.table_core.specs.Addresses.{Addr, Mem, super, state, address, words_of, is_there, mem_of, units_of}
 use Rattle.table_core.specs.Story.{unwritten}
 use Rattle.table_core.specs.Pool.{cap, Hand, records, used_at, held, owned, IsKept, bit_in}
 use Rattle.table_core.specs.Bounds.{IsBounded}
 use Rattle.table_core.specs.Views.{first_view}
-use Rattle.table_core.specs.Parts.{Part, pool, shares, bounds, wins, looks, evers, seen, Says, Holds}
+use Rattle.table_core.specs.Holdings.{Record, Skipped}
+use Rattle.table_core.specs.Own.{is_in, record_words}
+use Rattle.table_core.specs.Parts.{Part, pool, shares, bounds, wins, looks, evers, references, fits, own, roots, shaped, numbers, seen, Says, Holds}
 use Rattle.table_core.specs.declared.setup.Setup.{Setup}
 use Rattle.table_core.proofs.PoolFacts.{cond-le}
 use Rattle.table_core.proofs.ListFacts.{each-cons, each-none}
+use Rattle.table_core.proofs.OwnFacts.{knows-nothing, own-from}
 
 abbrev zeros : Mem
 zeros a = 0
@@ -48,6 +55,18 @@ module _ (g : Setup) where
     inside = λ c b past. omega (arith, cond-le (0 == c) (used_at g.plan (λ u. 0) i c b), cond-le (nat_lt b (cap g.plan c)) 0);
   }
 
+  -- no root word names a record
+  no_roots : (u : ℕ) → below (λ r. one_if (0 == u + 1)) 16 ≡ 0
+  no_roots u = below-same (λ r. one_if (0 == u + 1)) (λ r. 0) 16 (λ r near. ap one_if (ne_eqb 0 (u + 1) (λ e. omega (arith, e)))) ∙ below-zeros 16
+
+  -- no record is in a phase but that of none
+  free : (phase u : ℕ) → (0 == phase) ≡ false → is_in g.plan (λ w. 0) phase u ≡ 0
+  free phase u other = by (nat_lt u (units_of g.plan))
+    where
+      by : (b : Bool) → cond b (one_if (0 == phase)) 0 ≡ 0
+      by true = ap one_if other
+      by false = refl
+
   first_parts : (q : Part) → Says g q unwritten zeros (map (seen q) (first_view ∷ []))
   first_parts pool = record {
     kept = λ i near. opened i;
@@ -59,6 +78,26 @@ module _ (g : Setup) where
   first_parts wins = λ i c near. omega (arith, cond-le (0 == c) 0)
   first_parts looks = each-cons _ (seen looks first_view) [] (each-none _) (each-none _)
   first_parts evers = omega (arith, below-zeros g.plan.geometry.superblocks)
+  first_parts references = record {
+    counted = λ u near is. absurd (true≢false (sym is));
+    unnamed = λ u near is. omega (arith, no_roots u, below-zeros (units_of g.plan));
+    last = λ u near. refl;
+    inside = λ u far. omega (arith, below-zeros (units_of g.plan));
+  }
+  first_parts fits = record { saved = λ u near is. absurd (true≢false (sym is)); running = each-cons _ [] [] (each-none _) (each-none _) }
+  first_parts own = own-from g.plan (λ i. 0) (λ u. 0) (record_words zeros) (seen own first_view ∷ [])
+      (λ u. sym (free 1 u refl)) (λ u. sym (free 4 u refl)) (λ u. omega (arith, free 5 u refl))
+      (each-cons _ (seen own first_view) [] (record { classes = each-none _; run_classes = each-none _; numbers = each-none _; known = λ a n e. absurd (knows-nothing a n e) }) (each-none _))
+  first_parts roots = record {
+    one = refl;
+    says = each-cons _ (seen roots first_view) [] (each-cons _ [] [] (λ r near. refl) (each-none _)) (each-none _);
+    few = each-cons _ (seen roots first_view) [] (each-cons _ [] [] (omega arith) (each-none _)) (each-none _);
+    near = each-cons _ (seen roots first_view) [] (each-cons _ [] [] (λ r u at. absurd (none_there (Record u) at)) (each-none _)) (each-none _);
+    skipped = each-cons _ (seen roots first_view) [] (each-cons _ [] [] (λ r j at. absurd (none_there (Skipped j) at)) (each-none _)) (each-none _);
+    known = each-cons _ (seen roots first_view) [] (omega arith) (each-none _);
+  }
+  first_parts shaped = λ u near. record { phase_fits = omega arith; priority_fits = omega arith; tag_fits = omega arith; number_fits = omega arith }
+  first_parts numbers = record { taken = omega arith; calls = omega arith }
 
   pub holds-first : (n : ℕ) → n ≡ words_of g.plan → Holds g (replicate n 0) (first_view ∷ [])
   holds-first n long = (length-replicate n 0 ∙ long, (unwritten, λ q. subst (λ (m : Mem). Says g q unwritten m (map (seen q) (first_view ∷ []))) (sym (mem-zeros g.plan n)) (first_parts q)))

@@ -115,7 +115,7 @@ module _ (g : Plan) where
       (div-lt_iff_lt-mul {k = block_units c} {x = u % g.geometry.units} {y = cap g c} (pow_pos c)).1 (omega (arith, within, full))
 
   -- a superblock of which nothing changes
-  kept-same : (n n' : ℕ) (bits bits' : ℕ → ℕ) (held held' : ℕ → ℕ) (owned owned' : ℕ → ℕ → ℕ) → IsKept g n bits held owned → n' ≡ n
+  pub kept-same : (n n' : ℕ) (bits bits' : ℕ → ℕ) (held held' : ℕ → ℕ) (owned owned' : ℕ → ℕ → ℕ) → IsKept g n bits held owned → n' ≡ n
       → ((b : ℕ) → b < 512 → bits' b ≡ bits b) → ((c : ℕ) → held' c ≡ held c) → ((c b : ℕ) → owned' c b ≡ owned c b) → IsKept g n' bits' held' owned'
   kept-same n n' bits bits' held held' owned owned' kept same same_bits same_held same_owned =
       subst (λ (k : ℕ). IsKept g k bits' held' owned') (sym same) (record {

@@ -1,5 +1,5 @@
 -- Each kind of step of the pool keeps the rule.
-use Rattle.std.proofs.Common.{◌≡◌, ◌≢◌, ◌∙◌, ◌⊎◌, inl, inr, ℕ, zero, suc, ◌+◌, ◌-◌, ◌/◌, ◌%◌, ◌^◌, ◌<◌, ◌≤◌, Bool, cond, ◌==◌, List, map, refl, sym, ap, subst, arith}
+use Rattle.std.proofs.Common.{◌≡◌, ◌≢◌, ◌∙◌, ◌⊎◌, inl, inr, ℕ, zero, suc, ◌+◌, ◌-◌, ◌/◌, ◌%◌, ◌^◌, ◌<◌, ◌≤◌, Bool, cond, ◌==◌, List, map, length, refl, sym, ap, subst, arith}
 use prog.Atomic.{either}
 use Rattle.std.specs.Prelude.{slice_set}
 use Rattle.std.specs.Int.{bit_at}
@@ -11,7 +11,7 @@ use Rattle.record_core.proofs.TotalFacts.{total-map, total-set, total-member}
 use Rattle.kt_words.specs.SuperWords.{count_of, class_of, ever_of, risen, reserved_word}
 use Rattle.kt_words.specs.SuperWordLaws.{SuperWordSays}
 use Rattle.kt_words.proofs.SuperWordFacts.{word_reserves, count_falls}
-use Rattle.table_core.specs.Addresses.{Addr, Mem, super, bits, state, put}
+use Rattle.table_core.specs.Addresses.{Addr, Mem, super, bits, state, frame_in, put}
 use Rattle.record_core.specs.Counting.{At, Has, one_if}
 use Rattle.table_core.specs.Lists.{Each, hit}
 use Rattle.table_core.specs.Holdings.{Place, Block}
@@ -19,14 +19,17 @@ use Rattle.table_core.specs.Story.{Story, tasks_in}
 use Rattle.table_core.specs.Pool.{cap, superblock_of, bit_of, Hand, PoolSound, bit_in}
 use Rattle.table_core.specs.Wins.{Won, Looked, IsLook, at_place, WinsSound}
 use Rattle.table_core.specs.Bounds.{Held, IsBounded}
+use Rattle.table_core.specs.Own.{record_words}
+use Rattle.table_core.specs.Roots.{Turn}
 use Rattle.table_core.specs.Views.{place, is_place, saw, look_of, looked, reserved, claimed, cleared, settled}
 use Rattle.table_core.specs.Steps.{Tried, WonBit}
-use Rattle.table_core.specs.Parts.{Part, pool, shares, bounds, wins, looks, evers, seen, Says, AllSay, Lawful, Keeps}
+use Rattle.table_core.specs.Parts.{Part, pool, shares, bounds, wins, looks, evers, fits, own, roots, seen, Says, AllSay, Lawful, Keeps}
 use Rattle.table_core.specs.declared.setup.Setup.{Setup}
 use Rattle.table_core.specs.declared.view.View.{View}
 use Rattle.table_core.proofs.ListFacts.{at_map, each-set, each-cons, dropped-block, length-dropped-has, place-passes, total-has}
 use Rattle.table_core.proofs.Rule.{frames, moves, kept_word}
 use Rattle.table_core.proofs.PoolFacts.{cond-at, hit-here}
+use Rattle.table_core.proofs.ClassFacts.{fits-stay, own-stay}
 use Rattle.table_core.proofs.PoolSteps.{count-small, class_held, block_set, pool-reserved, pool-settled, pool-claimed, pool-cleared}
 use Rattle.table_core.proofs.WinSteps.{wins-reserved, wins-settled, looks-moved, evers-moved}
 use Rattle.table_core.proofs.BitFacts.{one_bit, all_but, set_again, bits-set, bits-cleared}
@@ -52,7 +55,7 @@ saw-same v a n pool = refl
 saw-same v a n q = refl
 
 -- a pass that is in use stays bounded while only its part of the pool changes
-bounded : (h : Held) (things : ℕ) → 1 ≤ h.parts → IsBounded h → IsBounded (record h { things = things })
+pub bounded : (h : Held) (things : ℕ) → 1 ≤ h.parts → IsBounded h → IsBounded (record h { things = things })
 bounded h things in_use was = record { few = was.few; accepted = was.accepted; single = was.single; spent = λ none. absurd (omega (arith, none)) }
 
 module _ (g : Setup) (id : ℕ) (v : View) where
@@ -127,7 +130,7 @@ module _ (g : Setup) (id : ℕ) (v : View) where
       look-parts q = frames g vs id v at q s m after_look refl (l q)
 
     -- reserve
-    module _ (i c new : ℕ) (near : i < g.plan.geometry.superblocks) (fits : c ≤ 3) (in_use : 1 ≤ v.parts) (which : (class_of (m (super i)) ≡ c) ⊎ (count_of (m (super i)) ≡ 0))
+    module _ (i c new : ℕ) (near : i < g.plan.geometry.superblocks) (low_class : c ≤ 3) (in_use : 1 ≤ v.parts) (which : (class_of (m (super i)) ≡ c) ⊎ (count_of (m (super i)) ≡ 0))
         (room : count_of (m (super i)) < cap g.plan c) (new_is : new ≡ reserved_word (m (super i)) c) (small : m (super i) < 18446744073709551616) where
       abbrev after_reserve : View
       after_reserve = saw (super i) (m (super i)) (reserved (place i c) v)
@@ -140,7 +143,7 @@ module _ (g : Setup) (id : ℕ) (v : View) where
 
       says : SuperWordSays (supers' i) (count_of (m (super i)) + 1) c (risen (ever_of (m (super i))))
       says = subst (λ (n : ℕ). SuperWordSays n (count_of (m (super i)) + 1) c (risen (ever_of (m (super i))))) (sym (super-here m i new ∙ new_is))
-          (word_reserves (m (super i)) c (omega (arith, count-small g.plan supers (bit_in m) states hands id hand hand_at sound i near)) (omega (arith, fits))).0
+          (word_reserves (m (super i)) c (omega (arith, count-small g.plan supers (bit_in m) states hands id hand hand_at sound i near)) (omega (arith, low_class))).0
 
       rises : (j : ℕ) → ever_of (supers j) ≤ ever_of (supers' j)
       rises j = by (cases_eq j i)
@@ -149,9 +152,21 @@ module _ (g : Setup) (id : ℕ) (v : View) where
           by (inl e) = subst (λ (x : ℕ). ever_of (supers x) ≤ ever_of (supers' x)) (sym e) (omega (arith, says.ever_is, small))
           by (inr ne) = omega (arith, ap ever_of (super-other m i new j ne))
 
+      -- only an empty superblock changes its class
+      class_stays : (j : ℕ) → j < g.plan.geometry.superblocks → 1 ≤ count_of (supers j) → class_of (supers' j) ≡ class_of (supers j)
+      class_stays j near' some = by (cases_eq j i)
+        where
+          here : (class_of (supers i) ≡ c) ⊎ (count_of (supers i) ≡ 0) → 1 ≤ count_of (supers i) → class_of (supers' i) ≡ class_of (supers i)
+          here (inl same) some' = says.class_is ∙ sym same
+          here (inr none) some' = absurd (omega (arith, none, some'))
+
+          by : (j ≡ i) ⊎ (j ≢ i) → class_of (supers' j) ≡ class_of (supers j)
+          by (inl e) = subst (λ (x : ℕ). class_of (supers' x) ≡ class_of (supers x)) (sym e) (here which (subst (λ (x : ℕ). 1 ≤ count_of (supers x)) e some))
+          by (inr ne) = ap class_of (super-other m i new j ne)
+
       reserve-parts : (q : Part) → Says g q s written (map (seen q) (slice_set vs id after_reserve))
       reserve-parts pool = moves g vs id v at pool s written after_reserve
-          (pool-reserved g.plan supers (bit_in m) states hands id hand hand_at sound i near c supers' fits room says which (super-other m i new))
+          (pool-reserved g.plan supers (bit_in m) states hands id hand hand_at sound i near c supers' low_class room says which (super-other m i new))
       reserve-parts bounds = moves g vs id v at bounds s written after_reserve (bounds-kept after_reserve (bounded (seen bounds v) _ in_use was_bounded))
       reserve-parts wins = moves g vs id v at wins s written after_reserve
           (wins-reserved g.plan supers supers' (map (seen wins) vs) id (seen wins v) (at_map (seen wins) vs id v at) (l wins) i c near (super-other m i new) which says)
@@ -161,6 +176,10 @@ module _ (g : Setup) (id : ℕ) (v : View) where
       reserve-parts evers = moves g vs id v at evers s written after_reserve
           (evers-moved g.plan supers supers' (tasks_in s.calls) i 1 (map (seen evers) vs) id (seen evers v) (seen evers after_reserve) (at_map (seen evers) vs id v at) near
           (super-other m i new) (omega (arith, says.ever_is)) (omega arith) (l evers))
+      reserve-parts fits = frames g vs id v at fits s written after_reserve refl
+          (fits-stay g.plan supers (bit_in m) states hands sound supers' class_stays g.checked (frame_in m) (map (seen fits) vs) (l fits))
+      reserve-parts own = frames g vs id v at own s written after_reserve refl
+          (own-stay g.plan supers (bit_in m) states hands sound supers' class_stays (record_words m) (map (seen own) vs) (l own))
       reserve-parts q = frames g vs id v at q s written after_reserve refl (l q)
 
     -- settle
@@ -190,6 +209,14 @@ module _ (g : Setup) (id : ℕ) (v : View) where
           by (inl e) = subst (λ (x : ℕ). ever_of (supers x) ≤ ever_of (supers'' x)) (sym e) (omega (arith, says_less.ever_is))
           by (inr ne) = omega (arith, ap ever_of (super-other m i new j ne))
 
+      -- the class stays
+      still_class : (j : ℕ) → j < g.plan.geometry.superblocks → 1 ≤ count_of (supers j) → class_of (supers'' j) ≡ class_of (supers j)
+      still_class j near' some = by (cases_eq j i)
+        where
+          by : (j ≡ i) ⊎ (j ≢ i) → class_of (supers'' j) ≡ class_of (supers j)
+          by (inl e) = subst (λ (x : ℕ). class_of (supers'' x) ≡ class_of (supers x)) (sym e) says_less.class_is
+          by (inr ne) = ap class_of (super-other m i new j ne)
+
       settle-parts : (q : Part) → Says g q s less (map (seen q) (slice_set vs id after_settle))
       settle-parts pool = moves g vs id v at pool s less after_settle
           (pool-settled g.plan supers (bit_in m) states hands id hand hand_at sound i near c supers'' has says_less (super-other m i new))
@@ -201,10 +228,14 @@ module _ (g : Setup) (id : ℕ) (v : View) where
       settle-parts evers = moves g vs id v at evers s less after_settle
           (evers-moved g.plan supers supers'' (tasks_in s.calls) i 0 (map (seen evers) vs) id (seen evers v) (seen evers after_settle) (at_map (seen evers) vs id v at) near
           (super-other m i new) (omega (arith, says_less.ever_is)) (omega arith) (l evers))
+      settle-parts fits = frames g vs id v at fits s less after_settle refl
+          (fits-stay g.plan supers (bit_in m) states hands sound supers'' still_class g.checked (frame_in m) (map (seen fits) vs) (l fits))
+      settle-parts own = frames g vs id v at own s less after_settle refl
+          (own-stay g.plan supers (bit_in m) states hands sound supers'' still_class (record_words m) (map (seen own) vs) (l own))
       settle-parts q = frames g vs id v at q s less after_settle refl (l q)
 
     -- claim, where the bit is clear
-    module _ (i c b : ℕ) (near : i < g.plan.geometry.superblocks) (fits : c ≤ 3) (below : b < cap g.plan c) (in_use : 1 ≤ v.parts) (has : Has (place i c) v.reserved)
+    module _ (i c b : ℕ) (near : i < g.plan.geometry.superblocks) (low_class : c ≤ 3) (below : b < cap g.plan c) (in_use : 1 ≤ v.parts) (has : Has (place i c) v.reserved)
         (clear : bit_at (m (bits i (b / 64))) (b % 64) ≡ 0) where
       abbrev after_claim : View
       after_claim = saw (bits i (b / 64)) (m (bits i (b / 64))) (claimed g.plan (place i c) b v)
@@ -214,7 +245,7 @@ module _ (g : Setup) (id : ℕ) (v : View) where
 
       claim-parts : (q : Part) → Says g q s marked (map (seen q) (slice_set vs id after_claim))
       claim-parts pool = moves g vs id v at pool s marked after_claim
-          (pool-claimed g.plan supers (bit_in m) states hands id hand hand_at sound i near c b (bit_in marked) fits below has (λ j d small. bits-set m i b clear j d))
+          (pool-claimed g.plan supers (bit_in m) states hands id hand hand_at sound i near c b (bit_in marked) low_class below has (λ j d small. bits-set m i b clear j d))
       claim-parts bounds = moves g vs id v at bounds s marked after_claim (bounds-kept after_claim (bounded (seen bounds v) _ in_use was_bounded))
       claim-parts evers = frames g vs id v at evers s marked after_claim
           (let e : seen evers v ≡ seen evers after_claim = omega (arith, length-dropped-has (is_place (place i c)) v.reserved (place i c) has (place-passes (place i c))) in e) (l evers)
@@ -255,11 +286,11 @@ module _ (g : Setup) (id : ℕ) (v : View) where
 
   pub reserves-at : (i c old new : ℕ) → i < g.plan.geometry.superblocks → c ≤ 3 → 1 ≤ v.parts → (class_of old ≡ c) ⊎ (count_of old ≡ 0) → count_of old < cap g.plan c → new ≡ reserved_word old c
       → Keeps g id v (super i) (λ n. either (n == old) new n) (λ r w. Tried old (saw (super i) r v) (saw (super i) r (reserved (place i c) v)) r w × (class_of r ≤ 3))
-  reserves-at i c old new near fits in_use which room new_is m vs s l at small = exchanged (m (super i)) old new
+  reserves-at i c old new near low_class in_use which room new_is m vs s l at small = exchanged (m (super i)) old new
       (λ n. (w : View) × Lawful g (put m (super i) n) (slice_set vs id w) × (Tried old (saw (super i) (m (super i)) v) (saw (super i) (m (super i)) (reserved (place i c) v)) (m (super i)) w × (class_of (m (super i)) ≤ 3)) × (w.parts ≡ v.parts))
       (λ e. (
         saw (super i) (m (super i)) (reserved (place i c) v),
-        (s, reserve-parts m vs s l at i c new near fits in_use (subst (λ (x : ℕ). (class_of x ≡ c) ⊎ (count_of x ≡ 0)) (sym e) which) (omega (arith, room, ap count_of e)) (new_is ∙ ap (λ (x : ℕ). reserved_word x c) (sym e)) small),
+        (s, reserve-parts m vs s l at i c new near low_class in_use (subst (λ (x : ℕ). (class_of x ≡ c) ⊎ (count_of x ≡ 0)) (sym e) which) (omega (arith, room, ap count_of e)) (new_is ∙ ap (λ (x : ℕ). reserved_word x c) (sym e)) small),
         ((λ same. refl, λ ne. absurd (ne e)), class_near m vs s l at i c near),
         refl,
       ))
@@ -281,14 +312,14 @@ module _ (g : Setup) (id : ℕ) (v : View) where
 
   pub claims-at : (i c b : ℕ) → i < g.plan.geometry.superblocks → c ≤ 3 → b < cap g.plan c → 1 ≤ v.parts → Has (place i c) v.reserved
       → Keeps g id v (bits i (b / 64)) (λ n. bit_or n (one_bit b)) (λ r w. WonBit b (saw (bits i (b / 64)) r v) (saw (bits i (b / 64)) r (claimed g.plan (place i c) b v)) r w)
-  claims-at i c b near fits below in_use has m vs s l at small = by (bit_two (m (bits i (b / 64))) (b % 64))
+  claims-at i c b near low_class below in_use has m vs s l at small = by (bit_two (m (bits i (b / 64))) (b % 64))
     where
       by : (bit_at (m (bits i (b / 64))) (b % 64) ≡ 0) ⊎ (bit_at (m (bits i (b / 64))) (b % 64) ≡ 1)
           → (w : View) × Lawful g (put m (bits i (b / 64)) (bit_or (m (bits i (b / 64))) (one_bit b))) (slice_set vs id w)
           × WonBit b (saw (bits i (b / 64)) (m (bits i (b / 64))) v) (saw (bits i (b / 64)) (m (bits i (b / 64))) (claimed g.plan (place i c) b v)) (m (bits i (b / 64))) w × (w.parts ≡ v.parts)
       by (inl clear) = (
         saw (bits i (b / 64)) (m (bits i (b / 64))) (claimed g.plan (place i c) b v),
-        (s, claim-parts m vs s l at i c b near fits below in_use has clear),
+        (s, claim-parts m vs s l at i c b near low_class below in_use has clear),
         (λ e. refl, λ e. absurd (omega (arith, clear, e))),
         refl,
       )
@@ -309,8 +340,10 @@ module _ (g : Setup) (id : ℕ) (v : View) where
     refl,
   )
 
-  -- a load of any word, which tells that no pass has more than all parts
-  pub glances-at : (a : Addr) → Keeps g id v a (λ n. n) (λ r w. (w ≡ saw a r v) × (v.parts ≤ 4096))
+  -- a load of any word, which tells that no pass has more than all parts, and none has more than one turn
+  pub glances-at : (a : Addr) → Keeps g id v a (λ n. n) (λ r w. (w ≡ saw a r v) × (v.parts ≤ 4096) × (length v.turn ≤ 1))
   glances-at a m vs s l at small =
       let mine : v.parts ≤ total (λ (n : ℕ). n) (map (seen shares) vs) = total-member (λ (n : ℕ). n) (map (seen shares) vs) id v.parts (at_map (seen shares) vs id v at) in
-      (saw a (m a) v, kept_word g m a (m a) _ refl (sees a (m a) m vs s l at), (refl, omega (arith, mine, l shares)), refl)
+      let its : length v.turn ≤ total (λ (t : Turn). length t.turn) (map (seen roots) vs) =
+      total-member (λ (t : Turn). length t.turn) (map (seen roots) vs) id (seen roots v) (at_map (seen roots) vs id v at) in
+      (saw a (m a) v, kept_word g m a (m a) _ refl (sees a (m a) m vs s l at), (refl, omega (arith, mine, l shares), omega (arith, its, (l roots).one)), refl)

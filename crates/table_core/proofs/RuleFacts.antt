@@ -1,8 +1,8 @@
 -- Blocks of passes lie apart, and a pool of which nobody has anything is empty.
-use Rattle.std.proofs.Common.{◌≡◌, ◌≢◌, ◌∙◌, ◌⊎◌, inl, inr, ℕ, zero, suc, ◌+◌, ◌*◌, ◌<◌, ◌≤◌, Bool, true, false, cond, ◌==◌, List, [], ◌∷◌, map, refl, sym, ap, subst, mul-le-mul_right, suc-mul, arith}
+use Rattle.std.proofs.Common.{◌≡◌, ◌≢◌, ◌∙◌, ◌⊎◌, inl, inr, ℕ, suc, ◌+◌, ◌*◌, ◌<◌, ◌≤◌, ◌==◌, List, map, refl, sym, ap, subst, mul-le-mul_right, suc-mul, arith}
 use Rattle.std.specs.Prelude.{nat_lt, slice_get}
-use Rattle.std.proofs.lemmas.Bool.{cases_eq, cases_order, le-ltb}
-use Rattle.record_core.specs.Sums.{total, below}
+use Rattle.std.proofs.lemmas.Bool.{cases_eq, cases_order}
+use Rattle.record_core.specs.Sums.{total}
 use Rattle.record_core.specs.Counting.{At, one_if}
 use Rattle.record_core.proofs.TotalFacts.{total-member, total-two_members, total-bounded}
 use Rattle.record_core.proofs.BelowFacts.{below-bounded}
@@ -13,12 +13,12 @@ use Rattle.kt_words.proofs.GeometryFacts.{blocks_fill, blocks_end_inside}
 use Rattle.table_core.specs.Addresses.{Mem, super, state, mem_of, units_of}
 use Rattle.table_core.specs.Lists.{Each, hit, hit3}
 use Rattle.table_core.specs.Holdings.{Place, Block}
-use Rattle.table_core.specs.Pool.{cap, unit_of, superblock_of, bit_of, IsBlock, is_used, Hand, places, owns, records, used_at, held, owned, IsKept, PoolSound, bit_in}
+use Rattle.table_core.specs.Pool.{superblock_of, bit_of, IsBlock, is_used, Hand, places, owns, records, held, owned, IsKept, PoolSound, bit_in}
 use Rattle.table_core.specs.Parts.{pool, seen, Holds}
 use Rattle.table_core.specs.RuleLaws.{HasAt, AreApart, BlocksAreApart, HasNothing, UnusedPoolIsEmpty}
 use Rattle.table_core.specs.declared.setup.Setup.{Setup}
 use Rattle.table_core.specs.declared.view.View.{View}
-use Rattle.table_core.proofs.ListFacts.{at_map, map_at, total-has, same_some}
+use Rattle.table_core.proofs.ListFacts.{at_map, map_at, same_some}
 use Rattle.table_core.proofs.PoolFacts.{cond-le, cond-at, hit-here, hit3-here, superblock_near, bit_below, owned-held}
 use Rattle.table_core.proofs.PoolSteps.{class_held}
 

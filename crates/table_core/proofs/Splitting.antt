@@ -1,26 +1,33 @@
 -- A pass is split in two: the rule is kept.
-use Rattle.std.proofs.Common.{◌≡◌, ◌∙◌, ℕ, ◌-◌, ◌≤◌, List, [], ◌∷◌, ◌++◌, map, refl, sym, ap, subst, arith}
-use Rattle.std.specs.Prelude.{slice_set}
+use Rattle.std.proofs.Common.{◌≡◌, ◌∙◌, ℕ, ◌*◌, ◌-◌, ◌≤◌, List, [], ◌∷◌, ◌++◌, map, length, refl, sym, ap, subst, arith}
+use Rattle.std.specs.Prelude.{slice_set, slice_index}
 use Rattle.std.proofs.lemmas.List.{map-set, map-append}
 use Rattle.atomic_table.specs.Table.{Splits}
 use Rattle.record_core.specs.Sums.{total}
 use Rattle.record_core.proofs.TotalFacts.{total-set, total-snoc}
 use Rattle.kt_words.specs.SuperWords.{class_of}
-use Rattle.table_core.specs.Addresses.{Mem, super, state, mem_of}
-use Rattle.record_core.specs.Counting.{At}
+use Rattle.kt_words.specs.Capacity.{block_units}
+use Rattle.frame_code.specs.Frames.{frame_length}
+use Rattle.table_core.specs.Addresses.{Mem, super, state, refs, root, frame_in, mem_of}
+use Rattle.record_core.specs.Counting.{At, times}
 use Rattle.table_core.specs.Lists.{Each}
-use Rattle.table_core.specs.Holdings.{Block, Look}
+use Rattle.table_core.specs.Holdings.{Block, Look, Run}
 use Rattle.table_core.specs.Story.{Story}
 use Rattle.table_core.specs.Pool.{Hand, IsBlock, places, owns, bit_in}
 use Rattle.table_core.specs.Wins.{Won, Looked, IsLook, at_place}
-use Rattle.table_core.specs.Bounds.{IsBounded}
+use Rattle.table_core.specs.Bounds.{IsBounded, Numbered}
+use Rattle.table_core.specs.References.{Bag}
+use Rattle.table_core.specs.Own.{Hands, made_at, runs_at, done_at, record_words}
+use Rattle.table_core.specs.Roots.{Turn}
 use Rattle.table_core.specs.Views.{kept_half, idle_half}
-use Rattle.table_core.specs.Parts.{Part, pool, shares, bounds, wins, looks, evers, Seen, seen, Says, AllSay}
+use Rattle.table_core.specs.Parts.{Part, pool, shares, bounds, wins, looks, evers, references, fits, own, roots, shaped, numbers, Seen, seen, Says, AllSay}
 use Rattle.table_core.specs.declared.setup.Setup.{Setup}
 use Rattle.table_core.specs.declared.view.View.{View}
 use Rattle.table_core.proofs.ListFacts.{found, at_map, each-set, each-append, each-cons, each-none}
 use Rattle.table_core.proofs.PoolFacts.{pool-same}
 use Rattle.table_core.proofs.WinSteps.{look-kept}
+use Rattle.table_core.proofs.ReferenceFacts.{referred-same}
+use Rattle.table_core.proofs.OwnFacts.{IsHand, knows-nothing, hands-from, own-from}
 use Rattle.table_core.proofs.Rule.{holds_at}
 
 module _ (g : Setup) (m : Mem) (vs : List View) (s : Story) (l : AllSay g s m vs) (id : ℕ) (v : View) (at : At vs id v) (room : 2 ≤ v.parts) where
@@ -45,9 +52,9 @@ module _ (g : Setup) (m : Mem) (vs : List View) (s : Story) (l : AllSay g s m vs
   was_bounded : IsBounded (seen bounds v)
   was_bounded = l bounds id (seen bounds v) (at_map (seen bounds) vs id v at)
 
-  look-split : (own own' : List _) (x : Look) → ((j c : ℕ) → at_place j c own' ≤ at_place j c own)
-      → IsLook g.plan (λ i. m (super i)) (map (seen looks) vs) own x → IsLook g.plan (λ i. m (super i)) (both looks) own' x
-  look-split own own' x fewer = look-kept g.plan (λ i. m (super i)) (λ i. m (super i)) (map (seen looks) vs) (both looks) own own' x (omega arith)
+  look-split : (mine mine' : List _) (x : Look) → ((j c : ℕ) → at_place j c mine' ≤ at_place j c mine)
+      → IsLook g.plan (λ i. m (super i)) (map (seen looks) vs) mine x → IsLook g.plan (λ i. m (super i)) (both looks) mine' x
+  look-split mine mine' x fewer = look-kept g.plan (λ i. m (super i)) (λ i. m (super i)) (map (seen looks) vs) (both looks) mine mine' x (omega arith)
       (omega (arith, fewer x.superblock (class_of x.word), sum-same looks (λ (u : Looked). at_place x.superblock (class_of x.word) u.wins) refl refl))
 
   split_parts : (q : Part) → Says g q s m (both q)
@@ -65,6 +72,34 @@ module _ (g : Setup) (m : Mem) (vs : List View) (s : Story) (l : AllSay g s m vs
       (λ k x there. look-split v.wins v.wins x (λ j c. omega arith) (l looks id (seen looks v) (at_map (seen looks) vs id v at) k x there))
       (λ k x there. look-split v.wins [] x (λ j c. omega arith) (l looks id (seen looks v) (at_map (seen looks) vs id v at) k x there))
   split_parts evers = omega (arith, l evers, sum-same evers (λ (n : ℕ). n) refl refl)
+  split_parts references = referred-same g.checked g.plan (λ u. m (state u)) (λ u. m (refs u)) (λ r. m (root r)) (frame_in m) (map (seen references) vs) (both references)
+      (λ u. sum-same references (λ (b : Bag). times u b.futures) refl refl) (λ u. sum-same references (λ (b : Bag). times u b.done) refl refl)
+      (λ u. sum-same references (λ (b : Bag). times u b.retiring) refl refl) (l references)
+  split_parts fits = record {
+    saved = (l fits).saved;
+    running = each-both fits (Each (λ (r : Run). frame_length g.checked (slice_index r.words 0) ≤ 8 * block_units r.class)) (l fits).running
+        ((l fits).running id (seen fits v) (at_map (seen fits) vs id v at)) (each-none _);
+  }
+  split_parts own =
+      let hands = hands-from g.plan (λ i. m (super i)) (λ u. m (state u)) (record_words m) (map (seen own) vs) (l own) in
+      own-from g.plan (λ i. m (super i)) (λ u. m (state u)) (record_words m) (both own)
+      (λ u. sum-same own (λ (h : Hands). made_at u h.made) refl refl ∙ (l own).made u) (λ u. sum-same own (λ (h : Hands). runs_at u h.runs) refl refl ∙ (l own).running u)
+      (λ u. omega (arith, sum-same own (λ (h : Hands). done_at u h.done) refl refl, (l own).done u))
+      (each-both own (IsHand g.plan (λ i. m (super i)) (λ u. m (state u)) (record_words m)) hands (hands id (seen own v) (at_map (seen own) vs id v at))
+      (record { classes = each-none _; run_classes = each-none _; numbers = each-none _; known = λ a n e. absurd (knows-nothing a n e) }))
+  split_parts roots = record {
+    one = sum-same roots (λ (t : Turn). length t.turn) refl refl ∙ (l roots).one;
+    says = each-both roots _ (l roots).says ((l roots).says id (seen roots v) (at_map (seen roots) vs id v at)) (each-none _);
+    few = each-both roots _ (l roots).few ((l roots).few id (seen roots v) (at_map (seen roots) vs id v at)) (each-none _);
+    near = each-both roots _ (l roots).near ((l roots).near id (seen roots v) (at_map (seen roots) vs id v at)) (each-none _);
+    skipped = each-both roots _ (l roots).skipped ((l roots).skipped id (seen roots v) (at_map (seen roots) vs id v at)) (each-none _);
+    known = each-both roots _ (l roots).known ((l roots).known id (seen roots v) (at_map (seen roots) vs id v at)) ((l roots).known id (seen roots v) (at_map (seen roots) vs id v at));
+  }
+  split_parts shaped = l shaped
+  split_parts numbers = record {
+    taken = omega (arith, sum-same numbers (λ (n : Numbered). n.taken) refl refl, (l numbers).taken);
+    calls = omega (arith, sum-same numbers (λ (n : Numbered). n.calls) refl refl, (l numbers).calls);
+  }
 
   pub split-says : (q : Part) → Says g q s m (map (seen q) (slice_set vs id (kept_half v) ++ idle_half v ∷ []))
   split-says q = subst (Says g q s m) (sym (map-append (seen q) (slice_set vs id (kept_half v)) (idle_half v ∷ []) ∙ ap (λ (xs : List (Seen q)). xs ++ seen q (idle_half v) ∷ []) (map-set (seen q) vs id (kept_half v)))) (split_parts q)

@@ -117,3 +117,10 @@ mem_of g ws a = cond (is_there g a) (slice_index ws (address g a)) 0
 -- one word is written
 abbrev pub put : Mem → Addr → ℕ → Mem
 put m a n b = cond (is_same a b) n (m b)
+
+-- word j of the frame of the record at u
+abbrev pub frame : ℕ → ℕ → Addr
+frame u j = arena (8 * u + j)
+
+abbrev pub frame_in : Mem → ℕ → ℕ → ℕ
+frame_in m u j = m (frame u j)

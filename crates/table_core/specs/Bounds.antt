@@ -1,5 +1,6 @@
 -- How much one pass may have.
-use Rattle.std.specs.Prelude.{◌≡◌, ℕ, ◌+◌, ◌*◌, ◌≤◌}
+use Rattle.std.specs.Prelude.{◌≡◌, ℕ, ◌+◌, ◌*◌, ◌≤◌, List}
+use Rattle.record_core.specs.Sums.{total}
 
 -- how many of each a pass has; `things` are all that leaves a pass not idle, but for its references, and the turn
 pub record Held : Type 0 where
@@ -19,3 +20,13 @@ pub record IsBounded (h : Held) : Type 0 where
   pub single : h.may_draw ≤ 1
   -- a pass that was joined into another has nothing
   pub spent : h.parts ≡ 0 → h.references + h.things ≡ 0
+
+-- how many numbers a pass took, and of how many it has the calls
+pub record Numbered : Type 0 where
+  pub taken : ℕ
+  pub calls : ℕ
+
+-- all passes together took no more numbers than the limit, and have no more calls
+pub record NumbersSound (limit : ℕ) (vs : List Numbered) : Type 0 where
+  pub taken : total (λ v. v.taken) vs ≤ limit
+  pub calls : total (λ v. v.calls) vs ≤ limit

@@ -6,7 +6,12 @@ pub mod Story
 pub mod Pool
 pub mod Wins
 pub mod Bounds
+pub mod References
+pub mod Own
+pub mod Roots
 pub mod Views
+pub mod RecordViews
 pub mod Parts
 pub mod Steps
 pub mod RuleLaws
+pub mod Naming

@@ -2,14 +2,18 @@
 -- and something of each view.
 use Rattle.std.specs.Prelude.{◌≡◌, ℕ, ◌+◌, ◌<◌, List, map, length, slice_get, slice_set, Some, cond, ◌==◌}
 use Rattle.record_core.specs.Sums.{total}
-use Rattle.table_core.specs.Addresses.{Addr, Mem, super, state, put, words_of, mem_of}
+use Rattle.kt_words.specs.StateWords.{IsStateWord}
+use Rattle.table_core.specs.Addresses.{Addr, Mem, super, state, refs, root, frame_in, put, units_of, words_of, mem_of}
 use Rattle.record_core.specs.Counting.{one_if}
 use Rattle.table_core.specs.Lists.{Each}
-use Rattle.table_core.specs.Holdings.{Block, Made}
+use Rattle.table_core.specs.Holdings.{Block, Made, Run, Done}
 use Rattle.table_core.specs.Story.{Story, tasks_in}
 use Rattle.table_core.specs.Pool.{Hand, PoolSound, bit_in}
 use Rattle.table_core.specs.Wins.{Won, WinsSound, Looked, LooksSound, EversSound}
-use Rattle.table_core.specs.Bounds.{Held, IsBounded}
+use Rattle.table_core.specs.Bounds.{Held, IsBounded, Numbered, NumbersSound}
+use Rattle.table_core.specs.References.{Bag, IsReferred, FramesFit}
+use Rattle.table_core.specs.Own.{Hands, OwnSound, record_words}
+use Rattle.table_core.specs.Roots.{Turn, RootsSound}
 use Rattle.table_core.specs.declared.setup.Setup.{Setup}
 use Rattle.table_core.specs.declared.view.View.{View}
 
@@ -26,6 +30,18 @@ pub data Part : Type 0 where
   looks : Part
   -- each reservation is accounted for
   evers : Part
+  -- reference words count who refers to a record
+  references : Part
+  -- frames lie inside their blocks
+  fits : Part
+  -- records are in hands, and what is known of their words is so
+  own : Part
+  -- root words say what the pass with the turn knows
+  roots : Part
+  -- each state word is one
+  shaped : Part
+  -- no more numbers are taken than there are
+  numbers : Part
 
 -- what a part reads of a view
 abbrev pub Seen : Part → Type 0
@@ -35,6 +51,12 @@ Seen bounds = Held
 Seen wins = Won
 Seen looks = Looked
 Seen evers = ℕ
+Seen references = Bag
+Seen fits = List Run
+Seen own = Hands
+Seen roots = Turn
+Seen shaped = Unit {0}
+Seen numbers = Numbered
 
 abbrev pub fresh_in : List Block → ℕ
 fresh_in = total (λ b. one_if b.fresh)
@@ -62,6 +84,12 @@ seen bounds v = record {
 seen wins v = record { wins = v.wins; settles = v.settles }
 seen looks v = record { wins = v.wins; looks = v.looks }
 seen evers v = length v.reserved + fresh_in v.blocks + unnumbered v.made + v.cleared
+seen references v = record { futures = v.futures; done = map (λ (d : Done). d.unit) v.done; retiring = v.retiring }
+seen fits v = v.runs
+seen own v = record { made = v.made; runs = v.runs; done = v.done; known = v.known }
+seen roots v = record { turn = v.turn; asked = v.asked }
+seen shaped v = tt
+seen numbers v = record { taken = length v.taken; calls = length v.calls }
 
 module _ (g : Setup) where
   -- what a part says
@@ -72,6 +100,12 @@ module _ (g : Setup) where
   Says wins s m vs = WinsSound g.plan (λ i. m (super i)) vs
   Says looks s m vs = LooksSound g.plan (λ i. m (super i)) vs
   Says evers s m vs = EversSound g.plan (λ i. m (super i)) (tasks_in s.calls) vs
+  Says references s m vs = IsReferred g.checked (λ u. m (state u)) (λ u. m (refs u)) (λ r. m (root r)) (frame_in m) g.plan vs
+  Says fits s m vs = FramesFit g.checked g.plan (λ u. m (state u)) (λ i. m (super i)) (frame_in m) vs
+  Says own s m vs = OwnSound g.plan (λ i. m (super i)) (λ u. m (state u)) (record_words m) vs
+  Says roots s m vs = RootsSound g.checked g.plan (λ r. m (root r)) vs
+  Says shaped s m vs = (u : ℕ) → u < units_of g.plan → IsStateWord (m (state u))
+  Says numbers s m vs = NumbersSound g.plan.limit vs
 
   -- all parts, of one story
   abbrev pub AllSay : Story → Mem → List View → Type 0

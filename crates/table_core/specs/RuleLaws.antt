@@ -1,10 +1,10 @@
 -- What the rule says of the pool in other words.
 use Rattle.std.specs.Prelude.{◌≡◌, ◌≢◌, ℕ, ◌+◌, ◌<◌, ◌≤◌, ◌⊎◌, List, []}
-use Rattle.record_core.specs.Counting.{At, one_if, passing}
+use Rattle.record_core.specs.Counting.{At}
 use Rattle.kt_words.specs.Capacity.{block_units}
 use Rattle.kt_words.specs.SuperWords.{count_of}
 use Rattle.kt_words.specs.StateWords.{phase_of}
-use Rattle.table_core.specs.Addresses.{Mem, super, state, mem_of, units_of}
+use Rattle.table_core.specs.Addresses.{super, state, mem_of, units_of}
 use Rattle.table_core.specs.Lists.{Each}
 use Rattle.table_core.specs.Holdings.{Block}
 use Rattle.table_core.specs.Pool.{bit_in}

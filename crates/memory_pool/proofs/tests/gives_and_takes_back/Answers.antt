@@ -1,4 +1,3 @@
-use Rattle.std.proofs.Common.{arith}
 use Rattle.step_table.specs.Passes.{view, block_of}
 use Rattle.memory_pool.proofs.Holding.{has-given, has-kept, has-refused}
 use Rattle.memory_pool.proofs.tests.gives_and_takes_back.Goals as goal

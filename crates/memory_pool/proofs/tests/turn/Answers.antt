@@ -1,4 +1,3 @@
-use Rattle.std.proofs.Common.{◌∙◌, arith}
 use Rattle.step_table.specs.Passes.{view, block_of}
 use Rattle.memory_pool.proofs.Holding.{has-given, only-given, only-refused, only-released}
 use Rattle.memory_pool.proofs.tests.turn.Goals as goal

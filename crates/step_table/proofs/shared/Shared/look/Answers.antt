@@ -1,8 +1,11 @@
 use Rattle.step_table.proofs.shared.Shared.look.Goals as goal
-use Rattle.std.proofs.Common.{ℕ, ◌∙◌, sym, ap}
+use Rattle.std.proofs.Common.{ℕ, ◌∙◌, length, sym, subst, ap, arith}
 use Rattle.table_core.specs.Addresses.{super}
-use Rattle.table_core.specs.Views.{saw, looked}
+use Rattle.table_core.specs.Views.{saw, looked, look_of}
+use Rattle.table_core.specs.declared.view.View.{View}
 use Rattle.table_core.proofs.PoolKinds.{looks-at}
+use Rattle.step_table.specs.LastLooks.{KeepsNewest}
+use Rattle.step_table.proofs.LooksFacts.{keeps-looked}
 use Rattle.step_table.proofs.Stepping.{super-there}
 
 pub load_as-found-requires-clause-word : goal.load_as-found-requires-clause-word
@@ -18,3 +21,14 @@ pub returns-clause-view : goal.returns-clause-view
 returns-clause-view c =
     let old = c.args.pass.now.seat.me.0 in
     c.load_as-found.ensures.told.0 ∙ ap (λ (n : ℕ). saw (super c.args.superblock) n (looked c.args.superblock c.args.class n old)) (sym c.of.ensures.packed.1)
+
+pub invariant_of-pass-clause-ages : goal.invariant_of-pass-clause-ages
+invariant_of-pass-clause-ages c =
+    let looks = ap (λ (v : View). length v.looks) c.load_as-found.ensures.told.0 in let old = ap (λ (v : View). v.old_looks) c.load_as-found.ensures.told.0 in
+    omega (arith, looks, old, c.args.pass.now.ages)
+
+pub invariant_of-pass-clause-looks : goal.invariant_of-pass-clause-looks
+invariant_of-pass-clause-looks c =
+    let pass = c.args.pass.now in let v = pass.seat.me.0 in let last = c.keep.new.self in
+    subst (λ (w : View). KeepsNewest last w.old_looks w.looks) (sym c.load_as-found.ensures.told.0)
+    (keeps-looked pass.last last v.old_looks v.looks (look_of c.args.superblock c.args.class c.load_as-found.result v) pass.ages pass.looks c.keep.ensures)

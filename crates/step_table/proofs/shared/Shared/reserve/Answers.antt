@@ -23,7 +23,7 @@ pub returns-then-found-old-clause-ok : goal.returns-then-found-old-clause-ok
 returns-then-found-old-clause-ok c =
     let won : View = reserved (place c.args.superblock c.args.class) c.args.pass.now.seat.me.0 in
     let e = c.if-found-old.true in
-    record { place_is = refl; view_is = c.compare_exchange_as-found.ensures.told.0.0 e ∙ ap (λ (n : ℕ). saw (super c.args.superblock) n won) (e ∙ c.pack-old.ensures.packed) }
+    record { place_is = refl; view_is = c.compare_exchange_as-found.ensures.told.0.0 e ∙ ap (λ (n : ℕ). saw (super c.args.superblock) n won) (e ∙ c.pack-old.ensures.packed); start_is = refl }
 
 pub returns-else-found-old-clause-err : goal.returns-else-found-old-clause-err
 returns-else-found-old-clause-err c =

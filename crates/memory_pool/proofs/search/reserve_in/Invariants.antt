@@ -1,5 +1,0 @@
-use Rattle.memory_pool.proofs.Searching.{OnlySees}
-use Rattle.memory_pool.proofs.search.reserve_in.Given as goal
-
-abbrev pub invariant-loop : goal.invariant-loop
-invariant-loop g l = (goal.iterator-loop g).can_next l.iterator' × (goal.iterator-loop g).is_finite l.iterator' × OnlySees l.fn.pass l.pass

@@ -1,0 +1,44 @@
+//! The atomic operations that only steps on records make.
+ghost use Rattle.std.specs.Prelude.{◌≡◌};
+
+use crate::shared::Shared;
+use crate::told::{Told, Wish};
+use atomic_table::Seat;
+use table_core::View;
+
+impl Shared {
+    ghost use Rattle.step_table.specs.Seats.{IsSameSeat, LiesAt, MayStep, more_by, always};
+
+    pub(crate) fn fetch_add_as<W: Wish, A>(
+        &self,
+        seat: &mut Seat<(), View>,
+        word: usize,
+        k: u64,
+        _about: &A,
+    ) -> u64
+        requires table { seat.old.table_id ≡ self.now.table.shared.table_id }
+        requires word { LiesAt self.now.setup.plan W.at word }
+        requires rule { MayStep self.now.setup seat.old W.at (more_by k) W.told }
+        ensures same { IsSameSeat seat.old seat.new }
+        ensures told { W.told result seat.new.me.0 }
+    {
+        self.table.shared.fetch_add::<Told<W>>(seat, word, k)
+    }
+
+    // A store does not tell what it found.
+    pub(crate) fn store_as<W: Wish, A>(
+        &self,
+        seat: &mut Seat<(), View>,
+        word: usize,
+        new: u64,
+        _about: &A,
+    )
+        requires table { seat.old.table_id ≡ self.now.table.shared.table_id }
+        requires word { LiesAt self.now.setup.plan W.at word }
+        requires rule { MayStep self.now.setup seat.old W.at (always new) (λ _. W.told new) }
+        ensures same { IsSameSeat seat.old seat.new }
+        ensures told { W.told new seat.new.me.0 }
+    {
+        self.table.shared.store::<Told<W>>(seat, word, new)
+    }
+}
