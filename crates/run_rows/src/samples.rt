@@ -225,12 +225,12 @@ pub(crate) static SAMPLES: [Sample; 28] = [
     // Aggregate behind each member
     Sample {
         program: "ktask 1\nkind T n p\nvar m @c @g\nstate start\nspawn @g T m 2\nall @c @g @g\n\
-            done 1\nend\nroot r17 T 2 2\n",
+            done 1\nend\nroot top T 2 2\n",
         superblocks: 2,
         units: 8,
         limit: 5,
         trace: true,
-        report: "root r17 1\nactivations 5\ntasks 5\nnulls 0\nheld 1 0 0 0\n\
+        report: "root top 1\nactivations 5\ntasks 5\nnulls 0\nheld 1 0 0 0\n\
             activation 1 task 1 after - start 1\nactivation 2 task 2 after - start 3\n\
             activation 3 task 3 after 2 start 7\nactivation 4 task 4 after - start 5\n\
             activation 5 task 5 after 4 start 9\ntask 1 finish 2 cause -\n\
@@ -239,13 +239,13 @@ pub(crate) static SAMPLES: [Sample; 28] = [
     },
     // Block kept while named
     Sample {
-        program: "ktask 1\nkind T12 n\nvar m @g19 @g\nstate start\nspawn @g19 T12 m\n\
-            all @g @g19 @g19\ndone 4\nend\nroot p19 T12 3\n",
+        program: "ktask 1\nkind pair n\nvar m @part @g\nstate start\nspawn @part pair m\n\
+            all @g @part @part\ndone 4\nend\nroot top pair 3\n",
         superblocks: 1,
         units: 8,
         limit: 9,
         trace: true,
-        report: "root p19 4\nactivations 9\ntasks 8\nnulls 1\nheld 1 0 0 0\nevidence class 0\n\
+        report: "root top 4\nactivations 9\ntasks 8\nnulls 1\nheld 1 0 0 0\nevidence class 0\n\
             superblock 0 class 0 8 of 8\nactivation 1 task 1 after - start 1\n\
             activation 2 task 2 after - start 3\nactivation 3 task 3 after 2 start 7\n\
             activation 4 task 4 after - start 5\nactivation 5 task 5 after 4 start 10\n\
@@ -258,20 +258,20 @@ pub(crate) static SAMPLES: [Sample; 28] = [
     },
     // Cut task starts and is cut
     Sample {
-        program: "ktask 1\nkind a n\nstate go\nagain go\nend\nroot p14 a 5\n\
-            root r0 a 0 behind @p14\n",
+        program: "ktask 1\nkind a n\nstate go\nagain go\nend\nroot lead a 5\n\
+            root r0 a 0 behind @lead\n",
         superblocks: 8,
         units: 16,
         limit: 2,
         trace: true,
-        report: "root p14 limit\nroot r0 limit\nactivations 2\ntasks 2\nnulls 0\nheld 2 0 0 0\n\
-            cause p14 limit 1\ncause r0 limit 2 1\nactivation 1 task 1 after - start 1\n\
+        report: "root lead limit\nroot r0 limit\nactivations 2\ntasks 2\nnulls 0\nheld 2 0 0 0\n\
+            cause lead limit 1\ncause r0 limit 2 1\nactivation 1 task 1 after - start 1\n\
             activation 2 task 2 after 1 start 3\ntask 1 finish 2 cause limit\n\
             task 2 finish 4 cause 1\n",
     },
     // Evidence of the first null
     Sample {
-        program: "ktask 1\nkind leaf p11 n\nvar m @c\nvar @b @h w w11\nstate start\n\
+        program: "ktask 1\nkind leaf lead n\nvar m @c\nvar @b @h w broad\nstate start\n\
             spawn @c leaf n m\nall @c @c\ndone 3\nend\nroot q leaf 2 2\n",
         superblocks: 1,
         units: 8,
@@ -302,25 +302,25 @@ pub(crate) static SAMPLES: [Sample; 28] = [
     // Last waiter is ready first
     Sample {
         program: "ktask 1\nkind k n\nstate start\ndone 3\nend\nroot r k 0\n\
-            root q k 1 behind @r\nroot r10 k 2 behind @r\n",
+            root q k 1 behind @r\nroot top k 2 behind @r\n",
         superblocks: 2,
         units: 8,
         limit: 3,
         trace: true,
-        report: "root r 3\nroot q 3\nroot r10 3\nactivations 3\ntasks 3\nnulls 0\n\
+        report: "root r 3\nroot q 3\nroot top 3\nactivations 3\ntasks 3\nnulls 0\n\
             held 3 0 0 0\nactivation 1 task 1 after - start 1\n\
             activation 2 task 2 after 1 start 5\nactivation 3 task 3 after 1 start 3\n\
             task 1 finish 2 cause -\ntask 2 finish 6 cause -\ntask 3 finish 4 cause -\n",
     },
     // Old future until the new one
     Sample {
-        program: "ktask 1\nkind k7 n s16\nvar m @b\nstate start\nspawn @b k7 m m\nagain st1\n\
-            state st1 holds @b\nspawn @b k7 m s16\ndone s16\nend\nroot q13 k7 2 0\n",
+        program: "ktask 1\nkind k7 n opening\nvar m @b\nstate start\nspawn @b k7 m m\nagain st1\n\
+            state st1 holds @b\nspawn @b k7 m opening\ndone opening\nend\nroot later k7 2 0\n",
         superblocks: 1,
         units: 8,
         limit: 16,
         trace: true,
-        report: "root q13 0\nactivations 16\ntasks 10\nnulls 2\nheld 1 0 0 0\n\
+        report: "root later 0\nactivations 16\ntasks 10\nnulls 2\nheld 1 0 0 0\n\
             evidence class 0\nsuperblock 0 class 0 8 of 8\n\
             activation 1 task 1 after - start 1\nactivation 2 task 2 after - start 2\n\
             activation 3 task 1 after - start 3\nactivation 4 task 4 after - start 5\n\
@@ -341,7 +341,7 @@ pub(crate) static SAMPLES: [Sample; 28] = [
     },
     // Pool asked before limit
     Sample {
-        program: "ktask 1\nkind leaf p11 n\nvar m @c\nvar @b @h w w11\nstate start\n\
+        program: "ktask 1\nkind leaf lead n\nvar m @c\nvar @b @h w broad\nstate start\n\
             spawn @c leaf n m\nall @c @c\ndone 3\nend\nroot q leaf 2 2\n",
         superblocks: 1,
         units: 8,
