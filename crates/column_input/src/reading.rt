@@ -38,7 +38,8 @@ pub fn read_columns(alloc: Global, bytes: &[u8]) -> Result<Columns, ColumnError>
 
     // What is answered is the table of the records, and where they have one it is answered.
     ensures tabulates { IfOk result (Tabulates (records_of bytes.now)) }
-    ensures accepts { (columns : ColumnsData) → Tabulates (records_of bytes.now) columns → Answers columns result }
+    ensures accepts { (columns : ColumnsData)
+        → Tabulates (records_of bytes.now) columns → Answers columns result }
 
     // A fault that is told is the first of the records, and where they have one it is told.
     ensures first { TellsFirst (records_of bytes.now) result }

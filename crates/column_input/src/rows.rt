@@ -28,8 +28,10 @@ fn empty_columns(alloc: Global, count: usize) -> Result<Vec<List<u64>>, AllocErr
 /// Puts the numbers of a row below the columns.
 fn add_row(columns: &mut Vec<List<u64>>, row: u32, fields: &ByteRecord) -> Result<(), ColumnError>
     requires { length columns.old.items ≤ 16 }
-    ensures checked { Gives result (check_row (length columns.old.items) row (fields_of fields.now)) }
-    ensures added { OnOk result (columns.new.items ≡ put_below columns.old.items (fields_of fields.now)) }
+    ensures checked { Gives result
+        (check_row (length columns.old.items) row (fields_of fields.now)) }
+    ensures added { OnOk result
+        (columns.new.items ≡ put_below columns.old.items (fields_of fields.now)) }
 {
     if row > MOST_ROWS {
         return Err(ColumnError::Fault {
@@ -56,7 +58,8 @@ fn add_numbers(
     requires few { length columns.old.items ≤ 16 }
     requires full { length (fields_of fields.now) ≡ length columns.old.items }
     ensures checked { Gives result (check_numbers row 1 (fields_of fields.now)) }
-    ensures added { OnOk result (columns.new.items ≡ put_below columns.old.items (fields_of fields.now)) }
+    ensures added { OnOk result
+        (columns.new.items ≡ put_below columns.old.items (fields_of fields.now)) }
 {
     'fields: for place in 0..columns.len() {
         let Some(number) = number_of(field_of(fields, place)) else {

@@ -27,7 +27,8 @@ pub(crate) fn next_record(
 ) -> Result<bool, AllocError>
     requires { IsReading reader.old }
     ensures reading { IfOk result (λ found. found ≡ true → IsReading reader.new) }
-    ensures records { IfOk result (λ found. ahead reader.old ≡ (if found then fields_of fields.new ∷ ahead reader.new else [])) }
+    ensures records { IfOk result (λ found. ahead reader.old
+        ≡ (if found then fields_of fields.new ∷ ahead reader.new else [])) }
 {
     match reader.read_byte_record(fields) {
         Ok(found) => Ok(found),

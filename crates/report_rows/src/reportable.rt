@@ -53,7 +53,8 @@ fn is_cut_by_task(rows: &[ActivationRow], cause: Cause) -> bool
 }
 
 fn are_cut_by_tasks(end: &GivenEnd<'_>) -> bool
-    ensures { IsTrue result → Each end.now.tasks.now (λ task. IsCutByTask end.now.activations.now task.cause) }
+    ensures { IsTrue result → Each end.now.tasks.now
+        (λ task. IsCutByTask end.now.activations.now task.cause) }
 {
     'tasks: for task in end.tasks {
         if !is_cut_by_task(end.activations, task.cause) {

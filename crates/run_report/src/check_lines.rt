@@ -79,7 +79,8 @@ fn write_lines<O: Sink>(program: &Program, out: &mut O) -> Result<(), Failed>
 
 /// Writes the class and the words of a frame of each kind, and how many kinds and roots there are. A line is one piece.
 pub fn write_check<O: Sink>(checked: &Checked, out: &mut O) -> Result<(), Failed>
-    ensures ok { OnOk result (Adds (O.seen out.old) (O.seen out.new) (text_of (check_lines checked.now))) }
+    ensures ok { OnOk result
+        (Adds (O.seen out.old) (O.seen out.new) (text_of (check_lines checked.now))) }
     ensures err { OnErr result
         (AddsFront (O.seen out.old) (O.seen out.new) (text_of (check_lines checked.now))) }
     ensures cause { ErrOnlyByFault result (O.seen out.old).faults (O.seen out.new).faults }

@@ -104,6 +104,10 @@ abbrev pub precedes : Found → Found → Bool
 precedes f g = nat_lt f.line g.line || (nat_eq f.line g.line && (nat_lt (rank f.cause) (rank g.cause)
     || (nat_eq (rank f.cause) (rank g.cause) && nat_lt f.position g.position)))
 
+-- a fault at a position of a line, with a name
+abbrev pub found_at : ℕ → Cause → ℕ → List ℕ → Found
+found_at line cause position name = record { line = line; cause = cause; position = position; name = name }
+
 -- the answer is a fault that no other one precedes, and none where there is no fault
 abbrev pub IsFirst : (Found → Type 0) → Option Found → Type 0
 IsFirst P None = (f : Found) → ¬ P f

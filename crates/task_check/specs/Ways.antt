@@ -7,7 +7,7 @@ use Rattle.task_syntax.specs.Valid.{Way, JumpsTo}
 use Rattle.task_syntax.specs.declared.instr.Instr.{Instr}
 use Rattle.task_syntax.specs.declared.program.State.{State}
 use Rattle.task_check.specs.declared.known.Known.{Known}
-use Rattle.task_check.specs.Known.{Question, IsAbout, says, knows}
+use Rattle.task_check.specs.Known.{Question, IsAbout, says, knows, answer_after, AnswersBy}
 
 -- there are facts in S, and a question about the first n variables is answered yes exactly where all of them say so
 pub record Agreed (n : ℕ) (S : Facts → Type 0) (answer : Question → Bool) : Type 0 where
@@ -35,7 +35,7 @@ pub record AreArrived (n : ℕ) (state : State) (lines : ℕ) (kept : List (Opti
 -- k is known beside what was kept
 abbrev pub IsJoined : ℕ → Option Known → Known → Option Known → Type 0
 IsJoined n None k slot = slot ≡ Some k
-IsJoined n (Some o) k slot = (j : Known) × (slot ≡ Some j) × (vec_len j.members ≡ n) × ((q : Question) → IsAbout n q → knows q j ≡ (knows q o && knows q k))
+IsJoined n (Some o) k slot = (j : Known) × (slot ≡ Some j) × (vec_len j.members ≡ n) × AnswersBy n (λ q. knows q o && knows q k) j
 
 -- k was brought to the places of which To holds, and the others stayed
 pub record Brings (n : ℕ) (To : ℕ → Type 0) (k : Known) (old new : List (Option Known)) : Type 0 where
@@ -43,17 +43,37 @@ pub record Brings (n : ℕ) (To : ℕ → Type 0) (k : Known) (old new : List (O
   pub brought : (at : ℕ) (before slot : Option Known) → slice_get old at ≡ Some before → slice_get new at ≡ Some slot → To at → IsJoined n before k slot
   pub kept : (at : ℕ) → ¬ To at → slice_get new at ≡ slice_get old at
 
+-- the place behind a line that goes on
+abbrev pub GoesOnTo : Instr → ℕ → ℕ → Type 0
+GoesOnTo instr at to = (to ≡ at + 1) × ¬ Leaves instr
+
 -- what gives these answers was brought there
 abbrev pub Passes : ℕ → (Question → Bool) → (ℕ → Type 0) → List (Option Known) → List (Option Known) → Type 0
-Passes n answer To old new = (k : Known) × (vec_len k.members ≡ n) × ((q : Question) → IsAbout n q → knows q k ≡ answer q) × Brings n To k old new
+Passes n answer To old new = (k : Known) × (vec_len k.members ≡ n) × AnswersBy n answer k × Brings n To k old new
+
+-- what is known was brought there
+abbrev pub PassesOn : Known → (ℕ → Type 0) → List (Option Known) → List (Option Known) → Type 0
+PassesOn k To old new = Passes (vec_len k.members) (λ q. knows q k) To old new
+
+-- what is known behind the instruction was brought to the next place, where it goes on
+abbrev pub GoesOn : Known → Instr → ℕ → List (Option Known) → List (Option Known) → Type 0
+GoesOn k instr at old new = Passes (vec_len k.members) (answer_after instr (λ q. knows q k)) (GoesOnTo instr at) old new
+
+-- there are n member lists, and nothing is held or settled
+abbrev pub KnowsNothing : ℕ → Known → Type 0
+KnowsNothing n k = (vec_len k.members ≡ n) × AnswersBy n (λ q. false) k
+
+-- k was brought to one place
+abbrev pub BringsTo : ℕ → Known → List (Option Known) → List (Option Known) → Type 0
+BringsTo to k old new = Brings (vec_len k.members) (λ at. at ≡ to) k old new
+
+-- nothing is kept for any place
+abbrev pub AreEmpty : List (Option Known) → Type 0
+AreEmpty kept = (at : ℕ) (slot : Option Known) → slice_get kept at ≡ Some slot → slot ≡ None
 
 -- what is kept has member lists for n variables
 abbrev pub AreSized : ℕ → List (Option Known) → Type 0
 AreSized n kept = (at : ℕ) (o : Known) → slice_get kept at ≡ Some (Some o) → vec_len o.members ≡ n
-
--- the place behind a line that goes on
-abbrev pub GoesOnTo : Instr → ℕ → ℕ → Type 0
-GoesOnTo instr at to = (to ≡ at + 1) × ¬ Leaves instr
 
 -- what was kept for a place is taken, and the other places stay
 pub record Takes (n at : ℕ) (k : Known) (old new : List (Option Known)) : Type 0 where

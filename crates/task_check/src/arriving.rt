@@ -2,7 +2,7 @@ ghost use Rattle.std.specs.Prelude.{◌≡◌, ℕ, ◌+◌, ◌<◌, ◌↔◌,
 ghost use Rattle.task_syntax.specs.Form.{Leaves};
 ghost use Rattle.task_syntax.specs.Valid.{JumpsTo};
 ghost use Rattle.task_check.specs.Known.{IsAbout, IsWithin, knows, answer_after};
-ghost use Rattle.task_check.specs.Ways.{AreSized, IsJoined, Brings, Passes, GoesOnTo, Takes};
+ghost use Rattle.task_check.specs.Ways.{AreSized, IsJoined, Brings, Passes, GoesOnTo, Takes, BringsTo, PassesOn, GoesOn, AreEmpty, KnowsNothing};
 ghost use Rattle.task_check.specs.declared.known.Known.{Known as KnownHere};
 
 use crate::known::Known;
@@ -12,7 +12,7 @@ use task_syntax::Instr;
 /// Places at which nothing arrives.
 pub fn nowhere(alloc: Global, places: usize) -> Result<Vec<Option<Known>>, AllocError>
     ensures len { IfOk result (λ v. length v.items ≡ places) }
-    ensures none { IfOk result (λ v. (at : ℕ) (slot : _) → slice_get v.items at ≡ Some slot → slot ≡ None) }
+    ensures none { IfOk result (λ v. AreEmpty v.items) }
 {
     let mut arriving = Vec::new(alloc);
     'places: for _at in 0..places {
@@ -25,7 +25,7 @@ pub fn nowhere(alloc: Global, places: usize) -> Result<Vec<Option<Known>>, Alloc
 pub fn arrive(arriving: &mut Vec<Option<Known>>, to: usize, known: Known)
     requires within { to < length arriving.old.items }
     requires sized { AreSized (vec_len known.members) arriving.old.items }
-    ensures { Brings (vec_len known.members) (λ at. at ≡ to) known arriving.old.items arriving.new.items }
+    ensures { BringsTo to known arriving.old.items arriving.new.items }
 {
     let slot = &mut arriving[to];
     let before = slot.take();
@@ -60,7 +60,7 @@ pub fn take(
 
 fn or_nothing(alloc: Global, variables: usize, here: Option<Known>) -> Result<Known, AllocError>
     ensures known { IfOk result (λ k. (o : KnownHere) → here ≡ Some o → k ≡ o) }
-    ensures none { IfOk result (λ k. here ≡ None → (vec_len k.members ≡ variables) × ((q : _) → IsAbout variables q → knows q k ≡ false)) }
+    ensures none { IfOk result (λ k. here ≡ None → KnowsNothing variables k) }
 {
     match here {
         Some(known) => Ok(known),
@@ -77,7 +77,8 @@ pub fn jump(
 ) -> Result<(), AllocError>
     requires within { (to : ℕ) → JumpsTo instr.now to → to < length arriving.old.items }
     requires sized { AreSized (vec_len known.now.members) arriving.old.items }
-    ensures { OnOk result (Passes (vec_len known.now.members) (λ q. knows q known.now) (JumpsTo instr.now) arriving.old.items arriving.new.items) }
+    ensures { OnOk result
+        (PassesOn known.now (JumpsTo instr.now) arriving.old.items arriving.new.items) }
 {
     match target_of(instr) {
         Some(target) => leap(alloc, target, known, arriving),
@@ -103,7 +104,8 @@ fn leap(
 ) -> Result<(), AllocError>
     requires within { target < length arriving.old.items }
     requires sized { AreSized (vec_len known.now.members) arriving.old.items }
-    ensures { OnOk result (Passes (vec_len known.now.members) (λ q. knows q known.now) (λ at. at ≡ target) arriving.old.items arriving.new.items) }
+    ensures { OnOk result
+        (PassesOn known.now (λ at. at ≡ target) arriving.old.items arriving.new.items) }
 {
     let same = known.copied(alloc)?;
     arrive(arriving, target as usize, same);
@@ -117,7 +119,7 @@ pub fn go_on(instr: &Instr, known: Known, at: usize, arriving: &mut Vec<Option<K
     requires within { at < length arriving.old.items }
     requires next { ¬ Leaves instr.now → at + 1 < length arriving.old.items }
     requires sized { AreSized (vec_len known.members) arriving.old.items }
-    ensures { Passes (vec_len known.members) (answer_after instr.now (λ q. knows q known)) (GoesOnTo instr.now at) arriving.old.items arriving.new.items }
+    ensures { GoesOn known instr.now at arriving.old.items arriving.new.items }
 {
     if !leaves(instr) {
         arrive(arriving, at + 1, known.after(instr));

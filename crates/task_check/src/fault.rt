@@ -1,6 +1,6 @@
 ghost use Rattle.std.specs.Prelude.{◌≡◌, IfOk, Some};
 ghost use Rattle.task_check.specs.Causes.{code_of, word_of, names_future as names_a_future, rank as rank_of};
-ghost use Rattle.task_check.specs.Faults.{precedes as comes_before};
+ghost use Rattle.task_check.specs.Faults.{precedes as comes_before, found_at};
 ghost use Rattle.task_check.specs.Parts.{earlier_of};
 
 use std::alloc::AllocError;
@@ -139,7 +139,7 @@ pub fn fault_at(
     position: usize,
     name: &Name,
 ) -> Result<Option<Found>, AllocError>
-    ensures { IfOk result (λ r. r ≡ Some (record { line = line; cause = cause; position = position; name = name.now })) }
+    ensures { IfOk result (λ r. r ≡ Some (found_at line cause position name.now)) }
 {
     let name = copied(name)?;
     Ok(Some(Found {

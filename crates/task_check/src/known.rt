@@ -15,12 +15,12 @@ pub struct Known {
 }
 
 impl Known {
-    ghost use Rattle.task_check.specs.Known.{in_set, held, settled, member, IsAbout, says, knows, answer_after, renewed_answer, given_up_answer, will_settle, IsWithin};
+    ghost use Rattle.task_check.specs.Known.{in_set, says, knows, AnswersBy, answer_after, copied_answer, renewed_answer, given_up_answer, will_settle, IsWithin};
 
     /// Nothing is held.
     pub fn nothing(alloc: Global, variables: usize) -> Result<Known, AllocError>
         ensures len { IfOk result (λ k. vec_len k.members ≡ variables) }
-        ensures knows { IfOk result (λ k. (q : _) → IsAbout variables q → knows q k ≡ false) }
+        ensures knows { IfOk result (AnswersBy variables (λ q. false)) }
     {
         let none = VariableSet::none();
         let members = vec![in alloc; none; variables]?;
@@ -36,7 +36,7 @@ impl Known {
         requires holds { Each state.now.holds (λ x. x < 256) }
         requires settled { Each state.now.settled (λ x. x < 256) }
         ensures len { IfOk result (λ k. vec_len k.members ≡ variables) }
-        ensures knows { IfOk result (λ k. (q : _) → IsAbout variables q → knows q k ≡ says q (at_start state.now)) }
+        ensures knows { IfOk result (AnswersBy variables (λ q. says q (at_start state.now))) }
     {
         let none = VariableSet::none();
         let members = vec![in alloc; none; variables]?;
@@ -64,7 +64,8 @@ impl Known {
     pub fn joined(self, other: &Known) -> Known
         requires { vec_len self.members ≡ vec_len other.now.members }
         ensures len { vec_len result.members ≡ vec_len self.members }
-        ensures knows { (q : _) → IsAbout (vec_len self.members) q → knows q result ≡ (knows q self && knows q other.now) }
+        ensures knows { AnswersBy (vec_len self.members)
+            (λ q. knows q self && knows q other.now) result }
     {
         let Known {
             held,
@@ -83,8 +84,8 @@ impl Known {
         requires within { variable < vec_len self.members }
         requires small { vec_len self.members < 256 }
         ensures len { vec_len result.members ≡ vec_len self.members }
-        ensures knows { (q : _) → IsAbout (vec_len self.members) q
-            → knows q result ≡ renewed_answer variable is_settled (λ y. in_set y listed) (λ r. knows r self) q }
+        ensures knows { AnswersBy (vec_len self.members)
+            (renewed_answer variable is_settled (λ y. in_set y listed) (λ q. knows q self)) result }
     {
         let Known {
             held,
@@ -103,7 +104,8 @@ impl Known {
         requires within { variable < vec_len self.members }
         requires small { vec_len self.members < 256 }
         ensures len { vec_len result.members ≡ vec_len self.members }
-        ensures knows { (q : _) → IsAbout (vec_len self.members) q → knows q result ≡ given_up_answer variable (λ r. knows r self) q }
+        ensures knows { AnswersBy (vec_len self.members)
+            (given_up_answer variable (λ q. knows q self)) result }
     {
         let Known {
             held,
@@ -122,7 +124,8 @@ impl Known {
         requires within { IsWithin (vec_len self.members) instr.now }
         requires small { vec_len self.members < 256 }
         ensures len { vec_len result.members ≡ vec_len self.members }
-        ensures knows { (q : _) → IsAbout (vec_len self.members) q → knows q result ≡ answer_after instr.now (λ r. knows r self) q }
+        ensures knows { AnswersBy (vec_len self.members)
+            (answer_after instr.now (λ q. knows q self)) result }
     {
         match instr {
             Instr::Spawn { to, .. } => self.renewed(*to, false, VariableSet::none()),
@@ -140,8 +143,8 @@ impl Known {
         requires within { (to < vec_len self.members) × (of < vec_len self.members) }
         requires small { vec_len self.members < 256 }
         ensures len { vec_len result.members ≡ vec_len self.members }
-        ensures knows { (q : _) → IsAbout (vec_len self.members) q
-            → knows q result ≡ cond (nat_eq to of) (knows q self) (renewed_answer to (knows (settled of) self) (λ y. knows (member of y) self) (λ r. knows r self) q) }
+        ensures knows { AnswersBy (vec_len self.members)
+            (copied_answer to of (λ q. knows q self)) result }
     {
         if to == of {
             return self;
@@ -167,7 +170,7 @@ impl Known {
     }
 }
 
-ghost use Rattle.task_check.specs.Known.{in_set};
+ghost use Rattle.task_check.specs.Known.{in_set, is_listed};
 
 fn put(set: VariableSet, variable: u16, is_in: bool) -> VariableSet
     requires { variable < 256 }
@@ -184,9 +187,8 @@ fn put(set: VariableSet, variable: u16, is_in: bool) -> VariableSet
 fn joined_members(mut members: Vec<VariableSet>, other: &Vec<VariableSet>) -> Vec<VariableSet>
     requires { vec_len members ≡ vec_len other.now }
     ensures len { vec_len result ≡ vec_len members }
-    ensures common { (g x : ℕ) → g < vec_len members
-        → in_set x (slice_index_or result.items g (record { words = [] }))
-        ≡ (in_set x (slice_index_or members.items g (record { words = [] })) && in_set x (slice_index_or other.now.items g (record { words = [] }))) }
+    ensures common { (g x : ℕ) → g < vec_len members → is_listed result.items g x
+        ≡ (is_listed members.items g x && is_listed other.now.items g x) }
 {
     'lists: for i in 0..members.len() {
         let both = members[i].common(other[i]);
@@ -200,9 +202,9 @@ fn relisted(mut members: Vec<VariableSet>, variable: u16, listed: VariableSet) -
     requires within { variable < vec_len members }
     requires small { vec_len members < 256 }
     ensures len { vec_len result ≡ vec_len members }
-    ensures lists { (g x : ℕ) → g < vec_len members
-        → in_set x (slice_index_or result.items g (record { words = [] }))
-        ≡ cond (nat_eq g variable) (in_set x listed) (not (nat_eq variable x) && in_set x (slice_index_or members.items g (record { words = [] }))) }
+    ensures lists { (g x : ℕ) → g < vec_len members → is_listed result.items g x
+        ≡ cond (nat_eq g variable) (in_set x listed)
+        (not (nat_eq variable x) && is_listed members.items g x) }
 {
     'lists: for i in 0..members.len() {
         let rest = members[i].without(variable);

@@ -5,10 +5,10 @@ ghost use Rattle.task_syntax.specs.Valid.{Way, Agrees, sort_of as sort_by};
 ghost use Rattle.task_syntax.specs.declared.program.State.{State};
 ghost use Rattle.task_check.specs.declared.fault.Cause.TheVariants.{BadCount, NotHeld, NotSettled, StateNeeds};
 ghost use Rattle.task_check.specs.Asks.{asks_held as held_by, asks_settled as settled_by, passed_settled, future_in};
-ghost use Rattle.task_check.specs.Known.{in_set, knows, held, will_settle};
+ghost use Rattle.task_check.specs.Known.{in_set, knows, held, will_settle, IsIn, WillBeSettled};
 ghost use Rattle.task_check.specs.Ways.{Agreed};
 ghost use Rattle.task_check.specs.Faults.{IsFirst, Lacks, LacksBehind, IsMisfit, LineFault};
-ghost use Rattle.task_check.specs.Parts.{LackingFault, IsFormedLine, LacksAnswers};
+ghost use Rattle.task_check.specs.Parts.{LackingFault, IsFormedLine, LacksAnswers, IsFirstOfLine, MisfitFault, CallMisfit, UnheldFault, UnsettledFault, NeedsFault, PassesVariables, EntryFault, RespawnFault};
 
 use crate::asks::{asks_held, asks_settled, futures_settled};
 use crate::fault::{Cause, Found, earlier, fault_at};
@@ -29,7 +29,8 @@ pub fn first_lacking(
     requires within { Each futures.now (λ x. x < length kind.now.variables) }
     requires small { length kind.now.variables < 256 }
     requires fits { offset < 2 ^ 62 }
-    ensures { IfOk result (λ r. IsFirst (LackingFault line cause offset kind.now futures.now (λ x. IsTrue (in_set x set))) r) }
+    ensures { IfOk result
+        (IsFirst (LackingFault line cause offset kind.now futures.now (IsIn set))) }
 {
     'futures: for i in 0..futures.len() {
         let variable = futures[i];
@@ -53,8 +54,7 @@ pub fn line_fault(
     requires kind { IsFormedKind program.now kind.now }
     requires known { vec_len known.now.members ≡ length kind.now.variables }
     requires line { IsFormedLine program.now kind.now line.now.instr }
-    ensures { IfOk result (λ r. (state : State) (at : ℕ) → Agreed (length kind.now.variables) (Way state at) (λ q. knows q known.now)
-        → IsFirst (LineFault program.now kind.now state at line.now) r) }
+    ensures { IfOk result (IsFirstOfLine program.now kind.now known.now line.now) }
 {
     let misfit = misfit(program, kind, line)?;
     let not_held = not_held(alloc, program, kind, known, line)?;
@@ -68,7 +68,7 @@ pub fn line_fault(
 fn misfit(program: &Program, kind: &Kind, line: &Line) -> Result<Option<Found>, AllocError>
     requires program { IsWellFormed program.now }
     requires line { IsFormedLine program.now kind.now line.now.instr }
-    ensures { IfOk result (λ r. IsFirst (λ f. (f.line ≡ line.now.line) × (f.cause ≡ BadCount) × (f.position ≡ 0) × IsMisfit program.now line.now.instr f.name) r) }
+    ensures { IfOk result (IsFirst (MisfitFault program.now line.now)) }
 {
     match &line.instr {
         Instr::Spawn {
@@ -90,7 +90,7 @@ fn spawn_misfit(
     line: u32,
 ) -> Result<Option<Found>, AllocError>
     requires { callee.now.arguments ≤ length callee.now.variables }
-    ensures { IfOk result (λ r. IsFirst (λ f. (f.line ≡ line) × (f.cause ≡ BadCount) × (f.position ≡ 0) × (f.name ≡ callee.now.name) × ¬ Agrees sort_by callee.now arguments.now) r) }
+    ensures { IfOk result (IsFirst (CallMisfit sort_by line callee.now arguments.now)) }
 {
     if agrees(callee, arguments) {
         return Ok(None);
@@ -107,7 +107,7 @@ fn not_held(
 ) -> Result<Option<Found>, AllocError>
     requires kind { IsFormedKind program.now kind.now }
     requires line { IsFormedLine program.now kind.now line.now.instr }
-    ensures { IfOk result (λ r. IsFirst (LackingFault line.now.line NotHeld 0 kind.now (held_by line.now.instr) (λ x. IsTrue (in_set x known.now.held))) r) }
+    ensures { IfOk result (IsFirst (UnheldFault kind.now known.now line.now)) }
 {
     let futures = asks_held(alloc, &line.instr)?;
     let asked = futures.as_slice();
@@ -123,7 +123,7 @@ fn not_settled(
 ) -> Result<Option<Found>, AllocError>
     requires kind { IsFormedKind program.now kind.now }
     requires line { IsFormedLine program.now kind.now line.now.instr }
-    ensures { IfOk result (λ r. IsFirst (LackingFault line.now.line NotSettled 0 kind.now (settled_by line.now.instr) (λ x. IsTrue (in_set x known.now.settled))) r) }
+    ensures { IfOk result (IsFirst (UnsettledFault kind.now known.now line.now)) }
 {
     let futures = asks_settled(alloc, &line.instr)?;
     let asked = futures.as_slice();
@@ -141,8 +141,7 @@ fn state_needs(
     requires kind { IsFormedKind program.now kind.now }
     requires known { vec_len known.now.members ≡ length kind.now.variables }
     requires line { IsFormedLine program.now kind.now line.now.instr }
-    ensures { IfOk result (λ r. IsFirst (λ f. (f.line ≡ line.now.line) × (f.cause ≡ StateNeeds)
-        × LacksAnswers program.now kind.now known.now line.now.instr f.position f.name) r) }
+    ensures { IfOk result (IsFirst (NeedsFault program.now kind.now known.now line.now)) }
 {
     match &line.instr {
         Instr::Spawn {
@@ -182,10 +181,11 @@ fn spawn_needs(
     requires callee { 0 < length callee.now.states }
     requires small { length kind.now.variables < 256 }
     requires known { vec_len known.now.members ≡ length kind.now.variables }
-    requires arguments { Each arguments.now (λ a. IfSome (future_in a) (λ x. x < length kind.now.variables)) }
+    requires arguments { PassesVariables (length kind.now.variables) arguments.now }
     requires behind { IfSome behind (λ x. x < length kind.now.variables) }
     ensures { IfOk result (λ r. (entry : State) → slice_get callee.now.states 0 ≡ Some entry
-        → IsFirst (LackingFault line StateNeeds 0 kind.now (passed_settled future_in entry.settled arguments.now) (λ x. IsTrue (will_settle (λ q. knows q known.now) behind x))) r) }
+        → IsFirst (EntryFault line kind.now entry arguments.now
+        (WillBeSettled known.now behind)) r) }
 {
     let entry = &callee.states.as_slice()[0];
     let futures = futures_settled(alloc, entry.settled.as_slice(), arguments)?;
@@ -206,8 +206,7 @@ fn respawn_needs(
     requires small { length kind.now.variables < 256 }
     requires known { vec_len known.now.members ≡ length kind.now.variables }
     requires behind { IfSome behind (λ x. x < length kind.now.variables) }
-    ensures { IfOk result (λ r. IsFirst (λ f. LackingFault line StateNeeds 0 kind.now next.now.holds (λ x. IsTrue (in_set x known.now.held)) f
-        ⊎ LackingFault line StateNeeds (length next.now.holds) kind.now next.now.settled (λ x. IsTrue (will_settle (λ q. knows q known.now) behind x)) f) r) }
+    ensures { IfOk result (IsFirst (RespawnFault line kind.now next.now known.now behind)) }
 {
     let holds = next.holds.as_slice();
     let not_held = first_lacking(kind, holds, known.held, line, Cause::StateNeeds, 0)?;

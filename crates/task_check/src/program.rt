@@ -2,6 +2,7 @@ ghost use Rattle.std.specs.Prelude.{◌≡◌, ℕ, Some, IfOk, IfErr, OnOk, len
 ghost use Rattle.task_syntax.specs.Form.{IsWellFormed, IsFormedKind};
 ghost use Rattle.task_syntax.specs.Valid.{IsValid};
 ghost use Rattle.task_check.specs.Faults.{IsFirst, SomeAt, SizeFault, StateFault, KindFault, RootFault, HasFault, TellsFirst, Refuses};
+ghost use Rattle.task_check.specs.Parts.{KindsFault, RootsFault, StatesFault};
 
 use crate::fault::{Cause, CheckError, Found, earlier, fault_at};
 use crate::root::root_fault;
@@ -45,7 +46,7 @@ fn program_fault(alloc: Global, program: &Program) -> Result<Option<Found>, Allo
 
 fn kinds_fault(alloc: Global, program: &Program) -> Result<Option<Found>, AllocError>
     requires { IsWellFormed program.now }
-    ensures { IfOk result (λ r. IsFirst (λ f. SomeAt program.now.kinds (λ _ kind. KindFault program.now kind f)) r) }
+    ensures { IfOk result (IsFirst (KindsFault program.now)) }
 {
     let kinds = program.kinds.as_slice();
     let mut first = None;
@@ -58,7 +59,7 @@ fn kinds_fault(alloc: Global, program: &Program) -> Result<Option<Found>, AllocE
 
 fn roots_fault(alloc: Global, program: &Program) -> Result<Option<Found>, AllocError>
     requires { IsWellFormed program.now }
-    ensures { IfOk result (λ r. IsFirst (λ f. SomeAt program.now.roots (λ _ root. RootFault program.now root f)) r) }
+    ensures { IfOk result (IsFirst (RootsFault program.now)) }
 {
     let roots = program.roots.as_slice();
     let mut first = None;
@@ -91,7 +92,7 @@ fn size_fault(kind: &Kind) -> Result<Option<Found>, AllocError>
 fn states_fault(alloc: Global, program: &Program, kind: &Kind) -> Result<Option<Found>, AllocError>
     requires program { IsWellFormed program.now }
     requires kind { IsFormedKind program.now kind.now }
-    ensures { IfOk result (λ r. IsFirst (λ f. SomeAt kind.now.states (λ place state. StateFault program.now kind.now place state f)) r) }
+    ensures { IfOk result (IsFirst (StatesFault program.now kind.now)) }
 {
     let states = kind.states.as_slice();
     let mut first = None;

@@ -6,7 +6,7 @@ ghost use Rattle.task_syntax.specs.declared.program.State.{State};
 ghost use Rattle.task_check.specs.declared.fault.Cause.TheVariants.{BadCount};
 ghost use Rattle.task_check.specs.Asks.{passed_settled, root_in};
 ghost use Rattle.task_check.specs.Faults.{IsFirst, RootFault};
-ghost use Rattle.task_check.specs.Parts.{UnbehindFault};
+ghost use Rattle.task_check.specs.Parts.{UnbehindFault, CallMisfit, PassesRoots, RootNeeds};
 
 use crate::asks::roots_settled;
 use crate::fault::{Cause, Found, earlier, fault_at};
@@ -31,7 +31,8 @@ pub fn root_fault(
 
 fn root_misfit(callee: &Kind, root: &Root) -> Result<Option<Found>, AllocError>
     requires { callee.now.arguments ≤ length callee.now.variables }
-    ensures { IfOk result (λ r. IsFirst (λ f. (f.line ≡ root.now.line) × (f.cause ≡ BadCount) × (f.position ≡ 0) × (f.name ≡ callee.now.name) × ¬ Agrees sort_by callee.now root.now.arguments) r) }
+    ensures { IfOk result
+        (IsFirst (CallMisfit sort_by root.now.line callee.now root.now.arguments)) }
 {
     if root_agrees(callee, root.arguments.as_slice()) {
         return Ok(None);
@@ -46,9 +47,9 @@ fn root_needs(
     root: &Root,
 ) -> Result<Option<Found>, AllocError>
     requires callee { 0 < length callee.now.states }
-    requires arguments { Each root.now.arguments (λ a. IfSome (root_in a) (λ r. r < length program.now.roots)) }
+    requires arguments { PassesRoots (length program.now.roots) root.now.arguments }
     ensures { IfOk result (λ r. (entry : State) → slice_get callee.now.states 0 ≡ Some entry
-        → IsFirst (UnbehindFault program.now root.now.line root.now.behind (passed_settled root_in entry.settled root.now.arguments)) r) }
+        → IsFirst (RootNeeds program.now root.now entry) r) }
 {
     let entry = &callee.states.as_slice()[0];
     let roots = roots_settled(alloc, entry.settled.as_slice(), root.arguments.as_slice())?;

@@ -1,11 +1,11 @@
-ghost use Rattle.std.specs.Prelude.{◌≡◌, ℕ, ◌+◌, ◌<◌, nat_lt, Some, IfOk, IsTrue, length, slice_get};
+ghost use Rattle.std.specs.Prelude.{◌≡◌, ℕ, ◌+◌, ◌<◌, nat_lt, Some, IfOk, IsTrue, length, slice_get, OnOk};
 ghost use Rattle.task_syntax.specs.Places.{Each};
 ghost use Rattle.task_syntax.specs.Form.{IsWellFormed, IsFormedKind, IsFormedState};
 ghost use Rattle.task_syntax.specs.Facts.{has};
 ghost use Rattle.task_check.specs.declared.fault.Cause.TheVariants.{NotHeld};
 ghost use Rattle.task_check.specs.Ways.{AreArrived};
 ghost use Rattle.task_check.specs.Faults.{IsFirst, SomeAt, LineFault, DeclaredFault, StateFault};
-ghost use Rattle.task_check.specs.Parts.{LackingFault};
+ghost use Rattle.task_check.specs.Parts.{LackingFault, CodeFault, IsFirstAt, SettledFault, ArgumentFault};
 
 use crate::arriving::{arrive, go_on, jump, nowhere, take};
 use crate::fault::{Cause, Found, earlier};
@@ -25,7 +25,7 @@ fn code_fault(
     requires program { IsWellFormed program.now }
     requires kind { IsFormedKind program.now kind.now }
     requires state { IsFormedState program.now kind.now state.now }
-    ensures { IfOk result (λ r. IsFirst (λ f. SomeAt state.now.code (λ at line. LineFault program.now kind.now state.now at line f)) r) }
+    ensures { IfOk result (IsFirst (CodeFault program.now kind.now state.now)) }
 {
     let mut arriving = arrivals(alloc, program, kind, state)?;
     let mut first = None;
@@ -67,8 +67,9 @@ fn pass(
     requires state { IsFormedState program.now kind.now state.now }
     requires within { at < length state.now.code }
     requires arrived { AreArrived (length kind.now.variables) state.now at arriving.old.items }
-    ensures arrived { IfOk result (λ _. AreArrived (length kind.now.variables) state.now (at + 1) arriving.new.items) }
-    ensures first { IfOk result (λ r. (line : _) → slice_get state.now.code at ≡ Some line → IsFirst (LineFault program.now kind.now state.now at line) r) }
+    ensures arrived { OnOk result
+        (AreArrived (length kind.now.variables) state.now (at + 1) arriving.new.items) }
+    ensures first { IfOk result (IsFirstAt program.now kind.now state.now at) }
 {
     let line = &state.code.as_slice()[at];
     let known = take(alloc, kind.variables.len(), at, arriving)?;
@@ -83,7 +84,7 @@ fn unheld_fault(kind: &Kind, state: &State) -> Result<Option<Found>, AllocError>
     requires small { length kind.now.variables < 256 }
     requires holds { Each state.now.holds (λ x. x < length kind.now.variables) }
     requires settled { Each state.now.settled (λ x. x < length kind.now.variables) }
-    ensures { IfOk result (λ r. IsFirst (LackingFault state.now.line NotHeld (length state.now.holds) kind.now state.now.settled (λ x. IsTrue (has x state.now.holds))) r) }
+    ensures { IfOk result (IsFirst (SettledFault kind.now state.now)) }
 {
     let holds = state.holds.as_slice();
     let settled = state.settled.as_slice();
@@ -96,7 +97,7 @@ fn entry_fault(kind: &Kind, state: &State) -> Result<Option<Found>, AllocError>
     requires small { length kind.now.variables < 256 }
     requires arguments { kind.now.arguments < 256 }
     requires holds { Each state.now.holds (λ x. x < length kind.now.variables) }
-    ensures { IfOk result (λ r. IsFirst (LackingFault state.now.line NotHeld 0 kind.now state.now.holds (λ x. IsTrue (nat_lt x kind.now.arguments))) r) }
+    ensures { IfOk result (IsFirst (ArgumentFault kind.now state.now)) }
 {
     let arguments = VariableSet::below(kind.arguments);
     let holds = state.holds.as_slice();
