@@ -19,7 +19,8 @@ const MOST_STEPS: usize = 64;
 
 /// Takes the first word of an instruction, where the state has room for one.
 fn begin_step(scope: &Scope, words: &mut Words<'_>) -> Result<(), Fault>
-    ensures { Scans (and_then (room scope.now.steps 64 words.old) (λ _ s. Ok (tt, moved s))) result words.new }
+    ensures { Scans (and_then (room scope.now.steps 64 words.old) (λ _ s. Ok (tt, moved s)))
+        result words.new }
 {
     words.room(scope.steps, MOST_STEPS)?;
     words.take_word();
@@ -82,7 +83,8 @@ pub(crate) fn if_line(scope: &Scope, words: &mut Words<'_>) -> Result<What, Faul
 
 #[tactic(auto, unfolding(crate::specs::Steps::step_line, crate::specs::Steps::read_goto))]
 pub(crate) fn goto_line(scope: &Scope, words: &mut Words<'_>) -> Result<What, Fault>
-    ensures { Scans (spec.step_line scope.now (spec.read_goto scope.now) words.old) result words.new }
+    ensures { Scans (spec.step_line scope.now (spec.read_goto scope.now) words.old)
+        result words.new }
 {
     begin_step(scope, words)?;
     let target = read_target(scope, words)?;
@@ -92,7 +94,8 @@ pub(crate) fn goto_line(scope: &Scope, words: &mut Words<'_>) -> Result<What, Fa
 
 #[tactic(auto, unfolding(crate::specs::Steps::step_line, crate::specs::Steps::read_label))]
 pub(crate) fn label_line(scope: &Scope, words: &mut Words<'_>) -> Result<What, Fault>
-    ensures { Scans (spec.step_line scope.now (spec.read_label scope.now) words.old) result words.new }
+    ensures { Scans (spec.step_line scope.now (spec.read_label scope.now) words.old)
+        result words.new }
 {
     begin_step(scope, words)?;
     let name = words.read_new_name(Cause::TwiceNamed, scope.labels.as_slice())?;

@@ -73,7 +73,8 @@ const PRIORITIES: [(&[u8], Priority); 3] = [
 
 /// What stands beside a word in a table.
 fn looked_up<T: Copy>(mut table: &[(&[u8], T)], word: &[u8]) -> Option<T>
-    ensures { result ≡ spec.looked_up (map (λ entry. (entry.0.now, entry.1)) table.entry.now) word.now }
+    ensures { result ≡ spec.looked_up (map (λ entry. (entry.0.now, entry.1)) table.entry.now)
+        word.now }
 {
     while let [entry, rest @ ..] = table {
         if entry.0 == word {

@@ -1,7 +1,8 @@
-//! The lines of the task language: each row of words is read to an item, with names as they are written.
+//! The lines of the task language: each row of words is read to an item, with names as they are
+//! written.
 //!
-//! `specs/Line.antt` says how each line is read, `specs/Reading.antt` how a text is, and `specs/Grammar.antt` which
-//! lines there are and where they may stand, apart from how they are read.
+//! `specs/Line.antt` says how each line is read, `specs/Reading.antt` how a text is, and
+//! `specs/Grammar.antt` which lines there are and where they may stand, apart from how they are read.
 #![tactic(auto)]
 
 mod instruction;
@@ -20,6 +21,3 @@ pub use keyword::Keyword;
 pub use reading::items_of;
 pub use scope::{Place, Scope};
 pub use step::{Passed, Step, Term};
-
-#[cfg(test)]
-mod tests;

@@ -23,7 +23,9 @@ pub(crate) fn further_variables(
     mut found: List<Variable>,
     words: &mut Words<'_>,
 ) -> Result<List<Variable>, TextError>
-    ensures { Reads (each scan.is_present (λ found. line.read_variable limit (before.now ++ found)) found words.old) result words.new }
+    ensures { Reads
+        (each scan.is_present (λ found. line.read_variable limit (before.now ++ found)) found words.old)
+        result words.new }
 {
     'words: while !is_missing(words.peek()) {
         found.push(read_variable(limit, before, found.as_slice(), words)?)?;
@@ -78,7 +80,8 @@ pub(crate) fn read_last_futures(
     alloc: Global,
     words: &mut Words<'_>,
 ) -> Result<List<Name>, TextError>
-    ensures { Reads (one_or_more scan.is_present line.read_other_future words.old) result words.new }
+    ensures { Reads (one_or_more scan.is_present line.read_other_future words.old)
+        result words.new }
 {
     let mut found = List::new(alloc);
     found.push(read_other_future(found.as_slice(), words)?)?;
@@ -123,7 +126,8 @@ pub(crate) fn read_root_arguments(
     alloc: Global,
     words: &mut Words<'_>,
 ) -> Result<List<RootTerm>, TextError>
-    ensures { Reads (each line.is_root_argument line.read_root_argument [] words.old) result words.new }
+    ensures { Reads (each line.is_root_argument line.read_root_argument [] words.old)
+        result words.new }
 {
     let mut found = List::new(alloc);
     'words: while is_root_argument(words.peek()) {

@@ -93,7 +93,8 @@ pub(crate) fn read_variable(
     found: &[Variable],
     words: &mut Words<'_>,
 ) -> Result<Variable, Fault>
-    ensures read { Scans (spec.read_variable limit (before.now ++ found.now) words.old) result words.new }
+    ensures read { Scans (spec.read_variable limit (before.now ++ found.now) words.old)
+        result words.new }
     ensures next { IfOk result (λ _. words.new ≡ moved words.old) }
 {
     let word = words.peek();

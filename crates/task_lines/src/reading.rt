@@ -16,7 +16,8 @@ use task_text::{Cause, Fault, Rows, TextError, Words, count_lines};
 /// The header, and nothing behind it.
 #[tactic(auto, using(crate::proofs::Starts::from_start), unfolding(crate::specs::Reading::rows_behind_header, task_text::specs::Scan::whole, task_text::specs::Scan::need))]
 fn take_header(rows: &mut Rows<'_>) -> Result<(), Fault>
-    ensures read { MatchResult result (λ _. spec.rows_behind_header rows.old ≡ Ok rows.new) (λ fault. spec.rows_behind_header rows.old ≡ Err fault) }
+    ensures read { MatchResult result (λ _. spec.rows_behind_header rows.old ≡ Ok rows.new)
+        (λ fault. spec.rows_behind_header rows.old ≡ Err fault) }
     ensures rest { rows.new ≡ drop 1 rows.old }
 {
     let Some(mut words) = rows.next_row() else {
@@ -43,7 +44,8 @@ fn line_number(words: &Words<'_>) -> u32
 fn next_item(alloc: Global, scope: &mut Scope, words: &mut Words<'_>) -> Result<Item, TextError>
     requires start { words.old.word ≡ 1 }
     requires steps { scope.old.steps < usize.MAX }
-    ensures what { Gives (λ (item : Item). item.what) result (spec.line_of scope.old (record { line = words.old.line; words = words.old.left })) }
+    ensures what { Gives (λ (item : Item). item.what) result
+        (spec.line_of scope.old (record { line = words.old.line; words = words.old.left })) }
     ensures line { IfOk result (λ item. item.line ≡ words.old.line) }
     ensures scope { IfOk result (λ item. scope.new ≡ after scope.old item.what) }
 {

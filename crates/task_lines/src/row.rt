@@ -100,7 +100,8 @@ pub(crate) fn line_of(
     words: &mut Words<'_>,
 ) -> Result<What, TextError>
     requires { words.old.word ≡ 1 }
-    ensures { Gives (λ what. what) result (spec.line_of scope.now (record { line = words.old.line; words = words.old.left })) }
+    ensures { Gives (λ what. what) result
+        (spec.line_of scope.now (record { line = words.old.line; words = words.old.left })) }
 {
     words.check_text()?;
     let too_soon = Fault {

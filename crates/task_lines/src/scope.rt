@@ -91,7 +91,15 @@ impl Scope {
         name: &Name,
         arguments: &List<Variable>,
     ) -> Result<(), AllocError>
-        ensures { OnOk result (self.new ≡ record self.old { place = Place.Head; kinds = self.old.kinds ++ name.now ∷ []; variables = arguments.now; states = []; labels = []; steps = 0 }) }
+        ensures { OnOk result
+            (self.new ≡ record self.old {
+              place = Place.Head;
+              kinds = self.old.kinds ++ name.now ∷ [];
+              variables = arguments.now;
+              states = [];
+              labels = [];
+              steps = 0;
+            }) }
     {
         self.kinds.push(name.copy())?;
         let mut variables = List::new(alloc);
@@ -105,7 +113,13 @@ impl Scope {
     }
 
     fn begin_state(&mut self, alloc: Global, name: &Name) -> Result<(), AllocError>
-        ensures { OnOk result (self.new ≡ record self.old { place = Place.Code; states = self.old.states ++ name.now ∷ []; labels = []; steps = 0 }) }
+        ensures { OnOk result
+            (self.new ≡ record self.old {
+              place = Place.Code;
+              states = self.old.states ++ name.now ∷ [];
+              labels = [];
+              steps = 0;
+            }) }
     {
         self.states.push(name.copy())?;
         self.place = Place::Code;
@@ -116,7 +130,12 @@ impl Scope {
 
     fn pass_step(&mut self, step: &Step) -> Result<(), AllocError>
         requires { self.old.steps < usize.MAX }
-        ensures { OnOk result (self.new ≡ record self.old { place = spec.place_behind step.now; labels = spec.labels_behind step.now self.old.labels; steps = self.old.steps + 1 }) }
+        ensures { OnOk result
+            (self.new ≡ record self.old {
+              place = spec.place_behind step.now;
+              labels = spec.labels_behind step.now self.old.labels;
+              steps = self.old.steps + 1;
+            }) }
     {
         add_label(&mut self.labels, step)?;
         self.place = place_behind(step);

@@ -1,19 +1,17 @@
 -- The items of a text keep the limits.
-use Rattle.std.proofs.Common.{◌≡◌, ◌≢◌, ℕ, suc, ◌+◌, ◌*◌, ◌^◌, ◌<◌, ◌≤◌, Bool, true, false, cond, not, ◌==◌, List, [], ◌∷◌, ◌++◌, length, drop, take, refl, sym, ap, ◌∙◌, subst, append_assoc, append-nil, length-append, codes, arith}
+use Rattle.std.proofs.Common.{◌≡◌, ℕ, suc, ◌+◌, ◌*◌, ◌^◌, ◌<◌, ◌≤◌, Bool, true, false, cond, not, ◌==◌, List, [], ◌∷◌, ◌++◌, length, drop, refl, sym, ap, subst, append_assoc, append-nil, length-append, codes, arith}
 use Rattle.std.specs.List.{starts_with, prefix_len}
 use Rattle.std.proofs.lemmas.List.{length-take, length-drop}
 use Rattle.std.specs.Prelude.{nat_eq}
 use Rattle.task_text.specs.Text.{Word, Row, in_front, lines_of, code_of, words_of, with_row, rows_from, without_mark, rows_of}
 use Rattle.task_text.proofs.Cutting.{length-words_of}
 use Rattle.task_lines.specs.declared.step.Step.{Step}
-use Rattle.task_lines.specs.declared.step.Step.TheVariants.{Set, Math, If, Goto, Label, Cell, Rows, Spawn, All, Copy, Drop, Get, Again, Done}
+use Rattle.task_lines.specs.declared.step.Step.TheVariants.{Spawn, All}
 use Rattle.task_lines.specs.declared.item.What.{What}
 use Rattle.task_lines.specs.declared.item.What.TheVariants as what
 use Rattle.task_lines.specs.declared.item.Item.{Item}
-use Rattle.task_lines.specs.declared.scope.Place.{Place}
-use Rattle.task_lines.specs.declared.scope.Place.TheVariants.{Outside, Head, Code, Jumped, Ended}
 use Rattle.task_lines.specs.declared.scope.Scope.{Scope}
-use Rattle.task_lines.specs.Scope.{first_scope, place_behind, after}
+use Rattle.task_lines.specs.Scope.{first_scope, after}
 use Rattle.task_lines.specs.Grammar.{SpellsFuture, EachSpells, SpellsFutures, Spells, MayStand, MayName, RowsSpellFrom, RowsSpell}
 use Rattle.task_reader.specs.Names.{kind_names, state_names}
 use Rattle.task_reader.specs.Program.{variables_from}

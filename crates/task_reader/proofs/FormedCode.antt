@@ -22,7 +22,8 @@ use Rattle.task_lines.specs.declared.scope.Place.TheVariants.{Head, Code, Ended}
 use Rattle.task_lines.specs.declared.scope.Scope.{Scope}
 use Rattle.task_lines.specs.Scope.{after, place_behind}
 use Rattle.task_lines.specs.Grammar.{MayBegin, IsInState}
-use Rattle.task_reader.specs.Names.{kind_names, state_names, label_names, known_at, step_known, line_known, names_known}
+use Rattle.task_reader.specs.Uses.{step_uses}
+use Rattle.task_reader.specs.Names.{kind_names, state_names, label_names, known_at, uses_known, names_known}
 use Rattle.task_reader.specs.declared.positions.Positions.{Positions}
 use Rattle.task_reader.specs.Program.{steps_to, instr_of, code_from}
 use Rattle.task_reader.proofs.Known.{both-known}
@@ -211,14 +212,14 @@ labels-ahead positions state at items code name h = let r = label-stands positio
 
 instrs-formed-step : (positions : Positions) (p : Program) (kind : Kind) → IsFor positions p kind → (state : State) (all : List Item) → kind_names all ≡ positions.kinds
     → (line : ℕ) (w : What) (items : List Item) → InstrsFormed positions p kind state all items → InstrsFormed positions p kind state all (item_at line w ∷ items)
-unfolding code_from names_known line_known
+unfolding code_from names_known
 instrs-formed-step positions p kind for state all kinds line (what.Step step) items further s at stand known variables states code j l e =
     by j l e where
-      parts : (step_known (known_at all s items) line step ≡ Ok tt) × (names_known all (after s (what.Step step)) items ≡ Ok tt)
-      parts = both-known (step_known (known_at all s items) line step) (names_known all (after s (what.Step step)) items) known
+      parts : (uses_known (known_at all s items) line 1 (step_uses step) ≡ Ok tt) × (names_known all (after s (what.Step step)) items ≡ Ok tt)
+      parts = both-known (uses_known (known_at all s items) line 1 (step_uses step)) (names_known all (after s (what.Step step)) items) known
 
-      here : step_known (known_for positions (label_names items) s.roots) line step ≡ Ok tt
-      here = subst (λ k. step_known k line step ≡ Ok tt) (known-is positions all s items kinds variables states) parts.0
+      here : uses_known (known_for positions (label_names items) s.roots) line 1 (step_uses step) ≡ Ok tt
+      here = subst (λ k. uses_known k line 1 (step_uses step) ≡ Ok tt) (known-is positions all s items kinds variables states) parts.0
 
       ahead : (j : ℕ) → slice_get state.code ((at + 1) + j) ≡ slice_get (code_from positions (at + 1) items) j
       ahead j = let e : (at + 1) + j ≡ at + suc j = omega arith in ap (λ n. slice_get state.code n) e ∙ code (suc j)

@@ -17,7 +17,7 @@ use Rattle.task_lines.specs.declared.item.Item.{Item}
 use Rattle.task_lines.specs.declared.scope.Scope.{Scope}
 use Rattle.task_lines.specs.Scope.{after}
 use Rattle.task_lines.specs.Grammar.{EachSpells, SpellsName, SpellsFuture, SpellsVariable}
-use Rattle.task_reader.specs.Names.{kind_names, state_names, known_at, line_known, names_known}
+use Rattle.task_reader.specs.Names.{kind_names, state_names, known_at, uses_known, line_known, names_known}
 use Rattle.task_reader.specs.declared.positions.Positions.{Positions}
 use Rattle.task_reader.specs.Program.{states_from, variables_from, kind_of, kinds_from}
 use Rattle.task_reader.proofs.Known.{both-known}
@@ -106,7 +106,7 @@ KindsFormed p kinds all items = (s : Scope) → Stand s items → names_known al
 
 kinds-formed-step : (p : Program) (kinds : List (List ℕ)) → length p.kinds ≡ length kinds → (all : List Item) → kind_names all ≡ kinds
     → (line : ℕ) (w : What) (items : List Item) → KindsFormed p kinds all items → KindsFormed p kinds all (item_at line w ∷ items)
-unfolding kinds_from names_known line_known
+unfolding kinds_from names_known uses_known
 kinds-formed-step p kinds count all names line (what.Kind name arguments) items further s stand known =
     each-cons (IsFormedKind p) (kind_of kinds line name arguments items) (kinds_from kinds items)
     (kind-formed p kinds count all names s line name arguments items stand known)

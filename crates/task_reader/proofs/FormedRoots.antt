@@ -1,5 +1,5 @@
 -- The roots of a program are well formed where their names are known.
-use Rattle.std.proofs.Common.{◌≡◌, ℕ, zero, suc, ◌+◌, ◌<◌, true, Option, Some, None, List, [], ◌∷◌, ◌++◌, Ok, length, slice_get, sym, subst, arith}
+use Rattle.std.proofs.Common.{◌≡◌, ℕ, zero, suc, ◌+◌, ◌<◌, true, Option, Some, None, List, [], ◌∷◌, ◌++◌, Ok, map, length, slice_get, sym, subst, arith}
 use Rattle.std.specs.Prelude.{IfSome}
 use Rattle.std.specs.Option.{option_map}
 use Rattle.std.proofs.lemmas.List.{length-append, length-map}
@@ -9,7 +9,6 @@ use Rattle.task_syntax.specs.declared.program.Root.{Root}
 use Rattle.task_syntax.specs.declared.program.Program.{Program}
 use Rattle.task_syntax.specs.declared.value.Priority.{Priority}
 use Rattle.task_syntax.proofs.Differ.{each-map, each-nil, each-cons}
-use Rattle.task_text.specs.Fault.{◌>>◌}
 use Rattle.task_text.specs.Text.{Word}
 use Rattle.task_text.specs.Scan.{is_among}
 use Rattle.task_lines.specs.declared.item.RootTerm.{RootTerm}
@@ -20,32 +19,30 @@ use Rattle.task_lines.specs.declared.item.Item.{Item}
 use Rattle.task_lines.specs.declared.scope.Scope.{Scope}
 use Rattle.task_lines.specs.Scope.{after}
 use Rattle.task_lines.specs.Grammar.{EachSpells, SpellsRootTerm}
-use Rattle.task_reader.specs.Names.{Known, kind_names, known, root_known, root_term_known, each_known, behind_known, known_at, line_known, names_known}
+use Rattle.task_reader.specs.Uses.{UsesRoot, root_term_use, behind_uses, root_uses}
+use Rattle.task_reader.specs.Names.{Known, kind_names, is_given, known_at, line_known, names_known}
 use Rattle.task_reader.specs.Program.{place_of, root_argument_of, root_of, roots_from}
 use Rattle.task_reader.proofs.Places.{place-within}
-use Rattle.task_reader.proofs.Known.{both-known, known-true}
+use Rattle.task_reader.proofs.Known.{AllGiven, both-known, all-given, given-parts}
 use Rattle.task_reader.proofs.FormedSteps.{number-fits}
 use Rattle.task_reader.proofs.Stands.{Stand, item_at}
 
-argument-formed : (k : Known) (line at : ℕ) (w : Word) (a : RootTerm) → SpellsRootTerm w a → root_term_known k line at a ≡ Ok tt
+argument-formed : (k : Known) (w : Word) (a : RootTerm) → SpellsRootTerm w a → is_given k (root_term_use a) ≡ true
     → IsFormedRootArgument (length k.roots) (root_argument_of k.roots a)
-argument-formed k line at w (root_term.Number n) s e = number-fits w n s
-argument-formed k line at w (root_term.Root name) s e = place-within k.roots name (known-true line at (is_among k.roots name) e)
+argument-formed k w (root_term.Number n) s e = number-fits w n s
+argument-formed k w (root_term.Root name) s e = place-within k.roots name e
 
-arguments-formed : (k : Known) (line word : ℕ) (ws : List Word) (arguments : List RootTerm) → EachSpells SpellsRootTerm ws arguments
-    → each_known (root_term_known k line) word arguments ≡ Ok tt → Each arguments (λ a. IsFormedRootArgument (length k.roots) (root_argument_of k.roots a))
-unfolding each_known
-arguments-formed k line word ws [] s e = each-nil (λ a. IsFormedRootArgument (length k.roots) (root_argument_of k.roots a))
-arguments-formed k line word [] (a ∷ more) s e = absurd s
-arguments-formed k line word (w ∷ ws) (a ∷ more) s e =
-    let b = both-known (root_term_known k line word a) (each_known (root_term_known k line) (word + 1) more) e in
-    each-cons (λ a. IsFormedRootArgument (length k.roots) (root_argument_of k.roots a)) a more
-    (argument-formed k line word w a s.0 b.0) (arguments-formed k line (word + 1) ws more s.1 b.1)
+arguments-formed : (k : Known) (ws : List Word) (arguments : List RootTerm) → EachSpells SpellsRootTerm ws arguments
+    → AllGiven k (map root_term_use arguments) → Each arguments (λ a. IsFormedRootArgument (length k.roots) (root_argument_of k.roots a))
+arguments-formed k ws [] s g = each-nil (λ a. IsFormedRootArgument (length k.roots) (root_argument_of k.roots a))
+arguments-formed k [] (a ∷ more) s g = absurd s
+arguments-formed k (w ∷ ws) (a ∷ more) s g = each-cons (λ a. IsFormedRootArgument (length k.roots) (root_argument_of k.roots a)) a more
+    (argument-formed k w a s.0 g.0) (arguments-formed k ws more s.1 g.1)
 
-behind-formed : (k : Known) (line word : ℕ) (behind : Option (List ℕ)) → behind_known (root_known k line) word behind ≡ Ok tt
+behind-formed : (k : Known) (behind : Option (List ℕ)) → AllGiven k (behind_uses UsesRoot behind)
     → IfSome (option_map (place_of k.roots) behind) (λ earlier. earlier < length k.roots)
-behind-formed k line word None e = tt
-behind-formed k line word (Some name) e = place-within k.roots name (known-true line (word + 1) (is_among k.roots name) e)
+behind-formed k None g = tt
+behind-formed k (Some name) g = place-within k.roots name g.1.0
 
 same-root : (a b : Root) → Some a ≡ Some b → a ≡ b
 same-root a b e = cc
@@ -59,24 +56,24 @@ root-formed : (p : Program) (kinds : List (List ℕ)) → length p.kinds ≡ len
     → Stand s (item_at line (what.Root name kind arguments behind priority) ∷ items)
     → line_known (known_at all s items) line (what.Root name kind arguments behind priority) ≡ Ok tt
     → IsFormedRoot p (length s.roots) (root_of kinds s.roots line name kind arguments behind priority)
-unfolding line_known root_of
+unfolding root_of
 root-formed p kinds count all names s line name kind arguments behind priority items stand looked_up = record {
   name = stand.0.1.4;
   kind = subst (λ n. place_of kinds kind < n) (sym count)
-      (place-within kinds kind (subst (λ ks. is_among ks kind ≡ true) names (known-true line 3 (is_among (kind_names all) kind) front.0)));
+      (place-within kinds kind (subst (λ ks. is_among ks kind ≡ true) names given.1.1.0));
   arguments_fit = omega (arith, length-map arguments (root_argument_of s.roots), stand.1.3);
   arguments = each-map (root_argument_of s.roots) (IsFormedRootArgument (length s.roots)) arguments
-      (arguments-formed k line 4 stand.0.1.0 arguments stand.0.1.6 front.1);
-  behind = behind-formed k line (4 + length arguments) behind parts.1;
+      (arguments-formed k stand.0.1.0 arguments stand.0.1.6 parts.0);
+  behind = behind-formed k behind parts.1;
 } where
   k : Known
   k = known_at all s items
 
-  parts : ((known line 3 (is_among k.kinds kind) >> each_known (root_term_known k line) 4 arguments) ≡ Ok tt) × (behind_known (root_known k line) (4 + length arguments) behind ≡ Ok tt)
-  parts = both-known _ _ looked_up
+  given : AllGiven k (root_uses kind arguments behind)
+  given = all-given k line 1 (root_uses kind arguments behind) looked_up
 
-  front : (known line 3 (is_among k.kinds kind) ≡ Ok tt) × (each_known (root_term_known k line) 4 arguments ≡ Ok tt)
-  front = both-known _ _ parts.0
+  parts : AllGiven k (map root_term_use arguments) × AllGiven k (behind_uses UsesRoot behind)
+  parts = given-parts k (map root_term_use arguments) (behind_uses UsesRoot behind) given.1.1.1
 
 roots-formed-step : (p : Program) (kinds : List (List ℕ)) → length p.kinds ≡ length kinds → (all : List Item) → kind_names all ≡ kinds
     → (line : ℕ) (w : What) (items : List Item) → RootsFormed p kinds all items → RootsFormed p kinds all (item_at line w ∷ items)

@@ -22,13 +22,13 @@ use Rattle.task_lines.specs.declared.scope.Place.TheVariants.{Outside, Head, Cod
 use Rattle.task_lines.specs.declared.scope.Scope.{Scope}
 use Rattle.task_lines.specs.Scope.{has_variable, after, place_behind}
 use Rattle.task_lines.specs.Grammar.{IsInState, MayFollow}
-use Rattle.task_text.specs.Fault.{◌>>◌}
-use Rattle.task_reader.specs.Names.{kind_names, state_names, words_of_list, known, future_known, known_at, each_known, line_known, names_known}
+use Rattle.task_reader.specs.Uses.{UsesFuture, futures_uses, state_uses}
+use Rattle.task_reader.specs.Names.{Known, kind_names, state_names, known_at, uses_known, line_known, names_known}
 use Rattle.task_reader.specs.declared.positions.Positions.{Positions}
 use Rattle.task_reader.specs.Program.{future_place, code_from, state_of, states_from, variables_from}
 use Rattle.task_reader.proofs.Places.{future-place-same}
-use Rattle.task_reader.proofs.Known.{both-known, known-true, each-known}
-use Rattle.task_reader.proofs.FormedSteps.{IsFor, futures-formed}
+use Rattle.task_reader.proofs.Known.{AllGiven, both-known, all-given, given-parts, each-given, futures-given, same-futures}
+use Rattle.task_reader.proofs.FormedSteps.{IsFor, known_for, futures-formed}
 use Rattle.task_reader.proofs.Stands.{Stand, item_at, IsInKind, no-outside, kind-behind, names-of-labels}
 use Rattle.task_reader.proofs.FormedCode.{line-at, code-fits, labels-differ, code-left, code-ends, instrs-formed}
 
@@ -38,10 +38,8 @@ futures-differ : (variables : List Variable) (names : List (List ℕ)) → Each 
 futures-differ variables names are differ = differ-map (future_place variables) names
     (λ i j x y e f same. future-place-same variables x y (are i x e) (are j y f) same) differ
 
-futures-are : (variables : List Variable) (line word : ℕ) (names : List (List ℕ)) → each_known (λ w name. known line w (has_variable variables Future name)) word names ≡ Ok tt
-    → Each names (λ name. has_variable variables Future name ≡ true)
-futures-are variables line word names e = each-known (λ w name. known line w (has_variable variables Future name)) (λ name. has_variable variables Future name ≡ true)
-    (λ w name k. known-true line w (has_variable variables Future name) k) word names e
+futures-are : (k : Known) (names : List (List ℕ)) → AllGiven k (map UsesFuture names) → Each names (λ name. has_variable k.variables Future name ≡ true)
+futures-are k names g = each-given k UsesFuture (λ name. has_variable k.variables Future name ≡ true) (λ name e. e) names g
 
 left-by-label : (state : State) → ((i : ℕ) (a b : Line) → slice_get state.code i ≡ Some a → Leaves a.instr → slice_get state.code (suc i) ≡ Some b → IsLabel b.instr)
     → (at : ℕ) (instr next : Instr) → instr_at state at ≡ Some instr → Leaves instr → instr_at state (at + 1) ≡ Some next → IsLabel next
@@ -54,13 +52,13 @@ pub state-formed : (positions : Positions) (p : Program) (kind : Kind) → IsFor
     → (s : Scope) (line : ℕ) (name : List ℕ) (holds settled : List (List ℕ)) (items : List Item) → Stand s (item_at line (what.State name holds settled) ∷ items)
     → names_known all s (item_at line (what.State name holds settled) ∷ items) ≡ Ok tt → s.variables ≡ positions.variables
     → (s.states ++ name ∷ []) ++ state_names items ≡ positions.states → IsFormedState p kind (state_of positions line name holds settled items)
-unfolding names_known line_known
+unfolding names_known
 state-formed positions p kind for all kinds s line name holds settled items stand looked_up variables states = record {
   name = stand.0.1.3;
-  holds = futures-formed positions p kind for [] [] line 4 holds held;
-  holds_differ = futures-differ positions.variables holds (futures-are positions.variables line 4 holds held) stand.1.3;
-  settled = futures-formed positions p kind for [] [] line (4 + words_of_list holds) settled settled_known;
-  settled_differ = futures-differ positions.variables settled (futures-are positions.variables line (4 + words_of_list holds) settled settled_known) stand.1.4;
+  holds = futures-formed positions p kind for [] [] holds held;
+  holds_differ = futures-differ positions.variables holds (futures-are k holds held) stand.1.3;
+  settled = futures-formed positions p kind for [] [] settled settled_known;
+  settled_differ = futures-differ positions.variables settled (futures-are k settled settled_known) stand.1.4;
   fits = omega (arith, code-fits positions items behind 0 stand.2 (omega arith));
   instrs = λ at l e. let z : 0 + at ≡ at = omega arith in
       subst (λ n. IsFormedInstr p kind state n l.instr) z
@@ -78,17 +76,21 @@ state-formed positions p kind for all kinds s line name holds settled items stan
   behind : Scope
   behind = after s (what.State name holds settled)
 
-  parts : ((each_known (future_known (known_at all s items) line) 4 holds >> each_known (future_known (known_at all s items) line) (4 + words_of_list holds) settled) ≡ Ok tt) × (names_known all behind items ≡ Ok tt)
+  k : Known
+  k = known_for positions [] []
+
+  parts : (line_known (known_at all s items) line (what.State name holds settled) ≡ Ok tt) × (names_known all behind items ≡ Ok tt)
   parts = both-known _ (names_known all behind items) looked_up
 
-  lists : (each_known (future_known (known_at all s items) line) 4 holds ≡ Ok tt) × (each_known (future_known (known_at all s items) line) (4 + words_of_list holds) settled ≡ Ok tt)
-  lists = both-known _ _ parts.0
+  lists : AllGiven (known_at all s items) (futures_uses holds) × AllGiven (known_at all s items) (futures_uses settled)
+  lists = given-parts (known_at all s items) (futures_uses holds) (futures_uses settled)
+      (all-given (known_at all s items) line 1 (state_uses holds settled) parts.0).1.1
 
-  held : each_known (λ w name. known line w (has_variable positions.variables Future name)) 4 holds ≡ Ok tt
-  held = subst (λ vs. each_known (λ w name. known line w (has_variable vs Future name)) 4 holds ≡ Ok tt) variables lists.0
+  held : AllGiven k (map UsesFuture holds)
+  held = same-futures (known_at all s items) k variables holds (futures-given (known_at all s items) holds lists.0)
 
-  settled_known : each_known (λ w name. known line w (has_variable positions.variables Future name)) (4 + words_of_list holds) settled ≡ Ok tt
-  settled_known = subst (λ vs. each_known (λ w name. known line w (has_variable vs Future name)) (4 + words_of_list holds) settled ≡ Ok tt) variables lists.1
+  settled_known : AllGiven k (map UsesFuture settled)
+  settled_known = same-futures (known_at all s items) k variables settled (futures-given (known_at all s items) settled lists.1)
 
   code : (j : ℕ) → slice_get state.code (0 + j) ≡ slice_get (code_from positions 0 items) j
   code j = let z : 0 + j ≡ j = omega arith in ap (λ n. slice_get state.code n) z
@@ -121,7 +123,7 @@ StatesFormed positions p kind all items = (s : Scope) → IsInKind s.place → S
 
 states-formed-step : (positions : Positions) (p : Program) (kind : Kind) → IsFor positions p kind → (all : List Item) → kind_names all ≡ positions.kinds
     → (line : ℕ) (w : What) (items : List Item) → StatesFormed positions p kind all items → StatesFormed positions p kind all (item_at line w ∷ items)
-unfolding states_from names_known line_known
+unfolding states_from names_known uses_known
 states-formed-step positions p kind for all kinds line (what.Kind name arguments) items further s in_kind stand known variables states =
     absurd (no-outside s.place in_kind stand.1.0)
 states-formed-step positions p kind for all kinds line (what.Var more) items further s in_kind stand known variables states =

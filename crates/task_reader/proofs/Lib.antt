@@ -16,4 +16,13 @@ pub mod Lines
 pub mod Formed
 pub mod Fitting
 pub mod Read
+pub mod AskedWords
+pub mod AskedLines
+pub mod AskedPlaces
+pub mod FirstFaults
+pub mod UsedWords
+pub mod FirstUnknown
+pub mod RowsTold
+pub mod NamesTold
+pub mod FaultsTold
 pub mod ReadLaws

@@ -1,18 +1,18 @@
 -- What the reading of a text means for the answer.
-use Rattle.std.proofs.Common.{◌≡◌, ℕ, ◌<◌, ◌^◌, List, length, Result, Ok, Err, refl, sym, ◌∙◌}
-use Rattle.task_syntax.specs.Form.{IsWellFormed}
+use Rattle.std.proofs.Common.{◌≡◌, ℕ, ◌<◌, ◌^◌, List, length, Result, Ok, Err, refl, sym, ◌∙◌, ap}
 use Rattle.task_syntax.specs.declared.program.Program.{Program}
 use Rattle.task_text.specs.declared.fault.Fault.{Fault}
 use Rattle.task_text.specs.declared.fault.TextError.{TextError}
 use Rattle.task_text.specs.declared.fault.TextError.TheVariants as text_error
-use Rattle.task_text.specs.Fault.{Gives}
+use Rattle.task_text.specs.Fault.{Gives, number_of}
 use Rattle.task_lines.specs.declared.item.Item.{Item}
 use Rattle.task_lines.specs.Reading.{items_of}
 use Rattle.task_lines.proofs.Spelled.{items_of-spelled}
-use Rattle.task_reader.specs.declared.error.ReadError.{ReadError}
 use Rattle.task_reader.specs.Fits.{Fit}
 use Rattle.task_reader.specs.Read.{program_in, GivesProgram, Spelled, Answers, error_of}
+use Rattle.task_reader.specs.Faults.{IsFirstFault, TellsFirst, Tells}
 use Rattle.task_reader.proofs.Fitting.{items_fit}
+use Rattle.task_reader.proofs.FaultsTold.{program-first, first-told}
 use Rattle.task_reader.proofs.Read.{program_in-spelled, program_in-formed, spelled-accepts}
 
 pub items_read : (text : List ℕ) (items : List Item) → length text < 2 ^ 32 → items_of text ≡ Ok items → Fit items
@@ -36,4 +36,24 @@ pub error-answers : (text : List ℕ) (e : TextError) → Gives {A = Program} {B
 error-answers text (text_error.Fault fault) h p s = no-fault p fault (sym (spelled-accepts text p s) ∙ h)
 error-answers text text_error.Memory h p s = tt
 
-pub ruleset read_laws = (error-exact, program-answers, error-answers, program_in-spelled, program_in-formed)
+-- a fault that is told is the first
+pub error-first : (text : List ℕ) (e : TextError) → Gives {A = Program} {B = Program} (λ p. p) (Err e) (program_in text) → TellsFirst text (Err (error_of e))
+error-first text (text_error.Fault fault) h = (fault, program-first text fault h, refl, refl, refl)
+error-first text text_error.Memory h = tt
+
+-- a text with a fault is no program
+pub program-never : (text : List ℕ) (q : Program) → program_in text ≡ Ok q → (fault : Fault) → IsFirstFault text fault → ⊥
+program-never text q e fault first = no-fault q fault (sym e ∙ first-told text fault first)
+
+same-fault : (f g : Fault) → ◌≡◌ {A = Result Program Fault} (Err f) (Err g) → f ≡ g
+same-fault f g e = cc
+
+-- the first fault of a text is told
+pub error-tells : (text : List ℕ) (e : TextError) → Gives {A = Program} {B = Program} (λ p. p) (Err e) (program_in text)
+    → (fault : Fault) → IsFirstFault text fault → Tells fault (Err (error_of e))
+error-tells text (text_error.Fault g) h fault first =
+    let same = same-fault g fault (sym h ∙ first-told text fault first) in
+    (ap (λ (f : Fault). number_of f.cause) same, ap (λ (f : Fault). f.line) same, ap (λ (f : Fault). f.word) same)
+error-tells text text_error.Memory h fault first = tt
+
+pub ruleset read_laws = (error-first, error-exact, program-answers, error-answers, program_in-spelled, program_in-formed)

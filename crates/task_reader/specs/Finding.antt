@@ -13,6 +13,7 @@ use Rattle.task_lines.specs.declared.step.Passed.TheVariants as passed
 use Rattle.task_lines.specs.declared.item.RootTerm.{RootTerm}
 use Rattle.task_lines.specs.declared.item.RootTerm.TheVariants as root_term
 use Rattle.task_lines.specs.Scope.{has_variable}
+use Rattle.task_reader.specs.declared.unknown.WordPlace.{WordPlace}
 
 abbrev pub is_known_term : List Variable → Term → Bool
 is_known_term variables (term.Literal n) = true
@@ -25,6 +26,10 @@ is_known_passed variables (passed.Future name) = has_variable variables Future n
 abbrev pub is_known_root_term : List (List ℕ) → RootTerm → Bool
 is_known_root_term roots (root_term.Number n) = true
 is_known_root_term roots (root_term.Root name) = is_among roots name
+
+-- behind so many words
+abbrev pub behind : ℕ → WordPlace → WordPlace
+behind count at = record at { word = at.word + count }
 
 -- what stands at a place of a list is unknown, where the list begins at a word
 abbrev pub unknown_at : ℕ → ℕ → Option ℕ → Result (Unit {0}) Fault

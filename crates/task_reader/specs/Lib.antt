@@ -1,3 +1,4 @@
+pub mod Uses
 pub mod Names
 pub mod Program
 pub mod Fits
@@ -5,3 +6,5 @@ pub mod Ahead
 pub mod Finding
 pub mod Parts
 pub mod Read
+pub mod Asked
+pub mod Faults

@@ -105,7 +105,8 @@ pub fn instr_of(
 ) -> Result<Instr, AllocError>
     requires short { AreShort p.now }
     requires room { at + 1 + steps_ahead ahead.now ≤ 64 }
-    ensures { IfOk result (λ instr. instr ≡ instr_of p.now (λ name. at + 1 + steps_to name ahead.now) step.now) }
+    ensures { IfOk result
+        (λ instr. instr ≡ instr_of p.now (λ name. at + 1 + steps_to name ahead.now) step.now) }
 {
     Ok(match step {
         Step::Set { to, value } => Instr::Set {

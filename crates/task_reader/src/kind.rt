@@ -19,7 +19,12 @@ fn positions_of(
     arguments: &[Variable],
     ahead: &[Item],
 ) -> Result<Positions, AllocError>
-    ensures { IfOk result (λ p. p ≡ record { kinds = kinds.now; variables = arguments.now ++ variables_from ahead.now; states = state_names ahead.now }) }
+    ensures { IfOk result
+        (λ p. p ≡ record {
+          kinds = kinds.now;
+          variables = arguments.now ++ variables_from ahead.now;
+          states = state_names ahead.now;
+        }) }
 {
     let mut copies = List::new(alloc);
     add_names(&mut copies, kinds)?;

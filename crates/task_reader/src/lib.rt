@@ -1,6 +1,8 @@
 //! Task programs as text: reading them, with the first fault where the text is no program.
 //!
-//! `specs/Read.antt` says what is read; the rows, lines and grammar that it stands on are those of the crates below.
+//! `specs/Read.antt` says what is read; the rows, lines and grammar that it stands on are those of
+//! the crates below. `specs/Asked.antt` is the language as a table, and `specs/Faults.antt` says by
+//! it which fault a text has first.
 #![tactic(auto)]
 
 mod ahead;

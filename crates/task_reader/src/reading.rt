@@ -1,7 +1,9 @@
 ghost use Rattle.std.specs.Prelude.{◌≡◌, ◌<◌, ◌^◌, length, IfOk};
 ghost use Rattle.task_syntax.specs.Form.{IsWellFormed};
 ghost use Rattle.task_text.specs.Fault.{Gives, number_of};
+ghost use Rattle.task_text.specs.declared.fault.Fault.{Fault as FaultData};
 ghost use Rattle.task_reader.specs.Fits.{Fit};
+ghost use Rattle.task_reader.specs.Faults.{IsFirstFault, Tells, TellsFirst};
 ghost use Rattle.task_reader.specs.Read.{program_from, program_in, GivesProgram, Spelled, Answers, error_of};
 ghost use Rattle.task_syntax.specs.declared.program.Program.{Program as ProgramData};
 
@@ -60,9 +62,15 @@ fn error_of(error: TextError) -> ReadError
 pub fn read_program(alloc: Global, text: &[u8]) -> Result<Program, ReadError>
     requires { length text.now < 2 ^ 32 }
     ensures exact { GivesProgram result (program_in text.now) }
+
+    // What is answered is spelled by the text, and what the text spells is answered.
     ensures spelled { IfOk result (Spelled text.now) }
     ensures accepts { (p : ProgramData) → Spelled text.now p → Answers p result }
     ensures formed { IfOk result IsWellFormed }
+
+    // A fault that is told is the first of the text, and where it has one it is told.
+    ensures first { TellsFirst text.now result }
+    ensures refuses { (fault : FaultData) → IsFirstFault text.now fault → Tells fault result }
 {
     match program_in(alloc, text) {
         Ok(program) => Ok(program),

@@ -43,7 +43,8 @@ fn state_of(
 ) -> Result<State, AllocError>
     requires short { AreShort p.now }
     requires room { steps_ahead ahead.now ≤ 64 }
-    ensures { IfOk result (λ state. state ≡ state_of p.now line name.now holds.now settled.now ahead.now) }
+    ensures { IfOk result
+        (λ state. state ≡ state_of p.now line name.now holds.now settled.now ahead.now) }
 {
     let holds = future_places(alloc, p, holds)?;
     let settled = future_places(alloc, p, settled)?;

@@ -1,21 +1,21 @@
+//! The names that a line uses, looked up from left to right.
+
 ghost use Rattle.std.specs.Prelude.{◌≡◌, ◌≤◌, ◌<◌, ◌+◌, ◌^◌, ◌++◌, length};
 ghost use Rattle.task_text.specs.Scan.{is_among as is_among_names};
-ghost use Rattle.task_reader.specs.Names.{known_among, state_names, words_of_list, step_known, line_known};
+ghost use Rattle.task_reader.specs.Names.{Known, known_among, label_names, state_names, uses_known};
+ghost use Rattle.task_reader.specs.Uses.{step_uses, line_uses, root_uses, state_uses};
 ghost use Rattle.task_reader.specs.Fits.{IsShortStep, IsShort};
 
 use crate::ahead::{has_label, has_state};
 use crate::place::is_among;
-use crate::unknown::{
-    arguments_known, behind_known, behind_root_known, future_known, futures_known, known,
-    number_known, root_terms_known, term_known,
-};
-use task_lines::{Item, Scope, Step, What};
-use task_syntax::Name;
+use crate::unknown::WordPlace;
+use task_lines::{Item, RootTerm, Scope, Step, What};
+use task_syntax::{Name, Variable};
 use task_text::Fault;
 
 /// Looks up the names of an instruction, from left to right.
-#[tactic(auto, unfolding(crate::specs::Names::step_known), using(crate::proofs::StepLemmas::step_lemmas))]
-pub fn step_known(
+#[tactic(auto, unfolding(crate::specs::Names::uses_known), using(crate::proofs::StepLemmas::term_lemmas))]
+fn step_known(
     kinds: &[Name],
     scope: &Scope,
     ahead: &[Item],
@@ -23,13 +23,16 @@ pub fn step_known(
     step: &Step,
 ) -> Result<(), Fault>
     requires { IsShortStep step.now }
-    ensures { result ≡ step_known (known_among kinds.now scope.now ahead.now) line step.now }
+    ensures { result ≡ uses_known (known_among kinds.now scope.now ahead.now) line 1
+        (step_uses step.now) }
 {
     let variables = scope.variables.as_slice();
+    let mut at = WordPlace::first(line);
+    at.pass(1);
     match step {
         Step::Set { to, value } => {
-            number_known(variables, line, 2, to)?;
-            term_known(variables, line, 3, value)
+            at.number_known(variables, to)?;
+            at.term_known(variables, value)
         }
         Step::Math {
             to,
@@ -37,9 +40,9 @@ pub fn step_known(
             right,
             ..
         } => {
-            number_known(variables, line, 2, to)?;
-            term_known(variables, line, 3, left)?;
-            term_known(variables, line, 4, right)
+            at.number_known(variables, to)?;
+            at.term_known(variables, left)?;
+            at.term_known(variables, right)
         }
         Step::If {
             left,
@@ -47,17 +50,20 @@ pub fn step_known(
             target,
             ..
         } => {
-            term_known(variables, line, 2, left)?;
-            term_known(variables, line, 4, right)?;
-            known(line, 6, has_label(ahead, target))
+            at.term_known(variables, left)?;
+            at.pass(1);
+            at.term_known(variables, right)?;
+            at.pass(1);
+            at.known(is_label(ahead, target))
         }
-        Step::Goto { target } => known(line, 2, has_label(ahead, target)),
+        Step::Goto { target } => at.known(is_label(ahead, target)),
         Step::Label { .. } => Ok(()),
         Step::Cell { to, row, .. } => {
-            number_known(variables, line, 2, to)?;
-            term_known(variables, line, 4, row)
+            at.number_known(variables, to)?;
+            at.pass(1);
+            at.term_known(variables, row)
         }
-        Step::Rows { to, .. } => number_known(variables, line, 2, to),
+        Step::Rows { to, .. } => at.number_known(variables, to),
         Step::Spawn {
             to,
             kind,
@@ -65,42 +71,87 @@ pub fn step_known(
             behind,
             ..
         } => {
-            future_known(variables, line, 2, to)?;
-            known(line, 3, is_among(kinds, kind))?;
-            arguments_known(variables, line, 4, arguments.as_slice())?;
-            behind_known(variables, line, 4 + arguments.len() as u32, behind)
+            at.future_known(variables, to)?;
+            at.known(is_among(kinds, kind))?;
+            at.passed_known(variables, arguments.as_slice(), behind)
         }
         Step::All { to, members, .. } => {
-            future_known(variables, line, 2, to)?;
-            futures_known(variables, line, 3, members.as_slice())
+            at.future_known(variables, to)?;
+            at.futures_known(variables, members.as_slice())
         }
         Step::Copy { to, of } => {
-            future_known(variables, line, 2, to)?;
-            future_known(variables, line, 3, of)
+            at.future_known(variables, to)?;
+            at.future_known(variables, of)
         }
-        Step::Drop { future } => future_known(variables, line, 2, future),
+        Step::Drop { future } => at.future_known(variables, future),
         Step::Get { to, future } => {
-            number_known(variables, line, 2, to)?;
-            future_known(variables, line, 3, future)
+            at.number_known(variables, to)?;
+            at.future_known(variables, future)
         }
         Step::Again { target, behind, .. } => {
-            known(line, 2, is_state(scope, ahead, target))?;
-            behind_known(variables, line, 3, behind)
+            at.known(is_state(scope, ahead, target))?;
+            at.behind_known(variables, behind)
         }
-        Step::Done { value } => term_known(variables, line, 2, value),
+        Step::Done { value } => at.term_known(variables, value),
     }
 }
 
+/// Whether a label of this name follows in the state.
+#[tactic(auto, using(crate::proofs::StepLemmas::ahead_lemmas))]
+fn is_label(ahead: &[Item], name: &Name) -> bool
+    ensures { result ≡ is_among_names (label_names ahead.now) name.now }
+{
+    has_label(ahead, name)
+}
+
 /// Whether the kind has a state of this name, before or behind the line.
-#[tactic(auto, using(crate::proofs::StepLemmas::step_lemmas))]
+#[tactic(auto, using(crate::proofs::StepLemmas::ahead_lemmas))]
 fn is_state(scope: &Scope, ahead: &[Item], name: &Name) -> bool
     ensures { result ≡ is_among_names (scope.now.states ++ state_names ahead.now) name.now }
 {
     is_among(scope.states.as_slice(), name) || has_state(ahead, name)
 }
 
+/// The futures that a state holds, and those that have settled in it.
+#[tactic(auto, unfolding(crate::specs::Names::uses_known))]
+fn state_known(
+    variables: &[Variable],
+    line: u32,
+    holds: &[Name],
+    settled: &[Name],
+) -> Result<(), Fault>
+    requires { length holds.now + length settled.now < 2 ^ 31 }
+    ensures { (k : Known) → k.variables ≡ variables.now
+        → result ≡ uses_known k line 1 (state_uses holds.now settled.now) }
+{
+    let mut at = WordPlace::first(line);
+    at.pass(2);
+    at.listed_known(variables, holds, settled)
+}
+
+/// The kind of a root, and the roots that it names.
+#[tactic(auto, unfolding(crate::specs::Names::uses_known))]
+fn root_known(
+    kinds: &[Name],
+    scope: &Scope,
+    ahead: &[Item],
+    line: u32,
+    kind: &Name,
+    arguments: &[RootTerm],
+    behind: &Option<Name>,
+) -> Result<(), Fault>
+    requires { length arguments.now ≤ 16 }
+    ensures { result ≡ uses_known (known_among kinds.now scope.now ahead.now) line 1
+        (root_uses kind.now arguments.now behind.now) }
+{
+    let mut at = WordPlace::first(line);
+    at.pass(2);
+    at.known(is_among(kinds, kind))?;
+    at.root_passed_known(scope.roots.as_slice(), arguments, behind)
+}
+
 /// Looks up the names of a line, from left to right.
-#[tactic(auto, unfolding(crate::specs::Names::line_known), using(crate::proofs::StepLemmas::step_lemmas))]
+#[tactic(auto, unfolding(crate::specs::Names::uses_known))]
 pub fn line_known(
     kinds: &[Name],
     scope: &Scope,
@@ -109,15 +160,14 @@ pub fn line_known(
     what: &What,
 ) -> Result<(), Fault>
     requires { IsShort what.now ahead.now }
-    ensures { result ≡ line_known (known_among kinds.now scope.now ahead.now) line what.now }
+    ensures { result ≡ uses_known (known_among kinds.now scope.now ahead.now) line 1
+        (line_uses what.now) }
 {
     match what {
         What::Kind { .. } | What::Var { .. } | What::End => Ok(()),
         What::State { holds, settled, .. } => {
             let variables = scope.variables.as_slice();
-            futures_known(variables, line, 4, holds.as_slice())?;
-            let word = 4 + words_of_list(holds.as_slice());
-            futures_known(variables, line, word, settled.as_slice())
+            state_known(variables, line, holds.as_slice(), settled.as_slice())
         }
         What::Step { step } => step_known(kinds, scope, ahead, line, step),
         What::Root {
@@ -126,23 +176,15 @@ pub fn line_known(
             behind,
             ..
         } => {
-            let roots = scope.roots.as_slice();
-            known(line, 3, is_among(kinds, kind))?;
-            root_terms_known(roots, line, 4, arguments.as_slice())?;
-            behind_root_known(roots, line, 4 + arguments.len() as u32, behind)
+            root_known(
+                kinds,
+                scope,
+                ahead,
+                line,
+                kind,
+                arguments.as_slice(),
+                behind,
+            )
         }
-    }
-}
-
-/// How many words a list takes with the fixed word in front of it.
-fn words_of_list(names: &[Name]) -> u32
-    requires { length names.now < 2 ^ 31 }
-    ensures exact { result ≡ words_of_list names.now }
-    ensures bound { result ≤ 1 + length names.now }
-{
-    if names.is_empty() {
-        0
-    } else {
-        1 + names.len() as u32
     }
 }

@@ -1,6 +1,7 @@
 //! A text as rows of words, each with its place, and the cursor that reads the words of a row.
 //!
-//! `specs/Text.antt` says which rows a text has, and `specs/Scan.antt` how the words of a row are read.
+//! `specs/Text.antt` says which rows a text has, and `specs/Scan.antt` how the words of a row are
+//! read.
 #![tactic(auto)]
 
 mod fault;
@@ -20,6 +21,3 @@ pub use word::{
     is_text,
 };
 pub use words::Words;
-
-#[cfg(test)]
-mod tests;

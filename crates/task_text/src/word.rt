@@ -80,7 +80,9 @@ fn are_name_bytes(word: &[u8]) -> bool
 
 /// All that a name is, but that it may be reserved.
 fn has_name_form(word: &[u8]) -> bool
-    ensures value { result ≡ (names.begins_with_letter word.now && list_all names.is_name_byte word.now && nat_le (length word.now) 24) }
+    ensures value { result
+        ≡ (names.begins_with_letter word.now && list_all names.is_name_byte word.now
+        && nat_le (length word.now) 24) }
     ensures short { IsTrue result → length word.now ≤ 24 }
 {
     begins_with_letter(word) && are_name_bytes(word) && word.len() <= 24

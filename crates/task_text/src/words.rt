@@ -211,7 +211,8 @@ impl<'a> Words<'a> {
         is_missing(self.front)
     }
 
-    /// Whether each byte of the words that are left is text, or the first word with another is at fault.
+    /// Whether each byte of the words that are left is text; the first word with another is at
+    /// fault.
     pub fn check_text(&self) -> Result<(), Fault>
         ensures { result ≡ spec.check_words self.now.line self.now.word self.now.left }
     {

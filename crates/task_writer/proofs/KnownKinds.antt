@@ -17,7 +17,8 @@ use Rattle.task_lines.specs.declared.item.What.TheVariants as what
 use Rattle.task_lines.specs.declared.item.Item.{Item}
 use Rattle.task_lines.specs.declared.scope.Scope.{Scope}
 use Rattle.task_lines.specs.Scope.{after}
-use Rattle.task_reader.specs.Names.{known_at, line_known, names_known, kind_names as names_of_kinds, state_names as names_of_states, label_names as names_of_labels}
+use Rattle.task_reader.specs.Names.{known_at, uses_known, line_known, names_known, kind_names as names_of_kinds, state_names as names_of_states, label_names as names_of_labels}
+use Rattle.task_reader.proofs.Known.{given-known, given-both, futures-listed}
 use Rattle.task_writer.specs.Lines.{name_at, kind_names, state_names, label_names, names_in, step_of, code_lines, state_lines, var_lines, kind_lines}
 use Rattle.task_writer.proofs.Itemized.{items_at}
 use Rattle.task_writer.proofs.Skipped.{skipped, skips-code, inner_lines}
@@ -74,7 +75,7 @@ pub code-known : (all : List Item) (p : Program) → names_of_kinds all ≡ kind
     → EachAt state.code (λ at line. IsFormedInstr p kind state at line.instr)
     → (rest : List What) → EndsCode rest → ((n : ℕ) → states ++ names_of_states (items_at n rest) ≡ state_names kind.states) → KnownIn all kind.variables states roots rest
     → (code : List Line) (at : ℕ) → IsFrom state.code at code → KnownIn all kind.variables states roots (code_lines (names_in (kind_names p.kinds) kind state) code ++ rest)
-unfolding names_known line_known
+unfolding names_known
 code-known all p kinds kind states roots state formed rest ends named further [] at from s n has = further s n has
 code-known all p kinds kind states roots state formed rest ends named further (l ∷ code) at from s n has =
     let lines = code_lines (names_in (kind_names p.kinds) kind state) code in
@@ -89,7 +90,7 @@ code-known all p kinds kind states roots state formed rest ends named further (l
       states = ap (λ names. names ++ names_of_states items) has.states_are ∙ (ap (λ names. states ++ names) ahead ∙ named (n + 1 + length lines));
     } in
     and-then (line_known (known_at all s items) n w) (names_known all (after s w) items)
-    (step-in (known_at all s items) p kind knows state at (label-in (kind_names p.kinds) kind state at code later (n + 1) rest ends) n l.instr (formed at l (from-here state.code at l code from)))
+    (given-known (known_at all s items) n 1 _ (step-in (known_at all s items) p kind knows state at (label-in (kind_names p.kinds) kind state at code later (n + 1) rest ends) l.instr (formed at l (from-here state.code at l code from))))
     (code-known all p kinds kind states roots state formed rest ends named further code (at + 1) later (after s w) (n + 1)
     (record { variables_are = has.variables_are; states_are = has.states_are; roots_are = has.roots_are }))
 
@@ -98,8 +99,10 @@ code-known all p kinds kind states roots state formed rest ends named further (l
 pub states-known : (all : List Item) (p : Program) → names_of_kinds all ≡ kind_names p.kinds → (kind : Kind) (roots : List (List ℕ)) (rest : List What) → KnownBehind all roots rest
     → (more : List State) (states : List (List ℕ)) → Each more (IsFormedState p kind) → states ++ state_names more ≡ state_names kind.states
     → KnownIn all kind.variables states roots (states_lines (kind_names p.kinds) kind more rest)
-unfolding names_known line_known state_lines
-states-known all p kinds kind roots rest further [] states formed names s n has = further (after s what.End) (n + 1) has.roots_are
+unfolding names_known state_lines
+states-known all p kinds kind roots rest further [] states formed names s n has =
+    let k = known_at all s (items_at (n + 1) rest) in
+    and-then (line_known k n what.End) (names_known all (after s what.End) (items_at (n + 1) rest)) (given-known k n 1 [] tt) (further (after s what.End) (n + 1) has.roots_are)
 states-known all p kinds kind roots rest further (state ∷ more) states formed names s n has =
     let here = formed zero state refl in
     let lines = code_lines (names_in (kind_names p.kinds) kind state) state.code in
@@ -114,7 +117,7 @@ states-known all p kinds kind roots rest further (state ∷ more) states formed 
     let later = states-known all p kinds kind roots rest further more (states ++ state.name ∷ []) (λ i. formed (suc i)) names_on in
     rw parted (
     and-then (line_known k n w) (names_known all (after s w) items)
-    (and-then _ _ (futures-in k kind has.variables_are n _ state.holds here.holds) (futures-in k kind has.variables_are n _ state.settled here.settled))
+    (given-known k n 1 _ (refl, (refl, given-both k _ _ (futures-listed k _ (futures-in k kind has.variables_are state.holds here.holds)) (futures-listed k _ (futures-in k kind has.variables_are state.settled here.settled)))))
     (code-known all p kinds kind (states ++ state.name ∷ []) roots state here.instrs behind (states-end-code (kind_names p.kinds) kind more rest) named later
     state.code 0 (from-start state.code) (after s w) (n + 1) (record { variables_are = has.variables_are; states_are = ap (λ names. names ++ state.name ∷ []) has.states_are; roots_are = has.roots_are }))
     )
@@ -123,7 +126,7 @@ states-known all p kinds kind roots rest further (state ∷ more) states formed 
 
 var-known : (all : List Item) (states roots : List (List ℕ)) (variables : List Variable) (rest : List What) → KnownIn all variables states roots rest
     → (other before : List Variable) → before ++ other ≡ variables → KnownIn all before states roots (var_lines other ++ rest)
-unfolding names_known line_known
+unfolding names_known uses_known
 var-known all states roots variables rest further [] before whole s n has =
     further s n (record { variables_are = has.variables_are ∙ (sym (append-nil before) ∙ whole); states_are = has.states_are; roots_are = has.roots_are })
 var-known all states roots variables rest further (v ∷ vs) before whole s n has =
@@ -144,7 +147,7 @@ kind-known all p kinds kind formed roots rest further s n has =
 
 pub kinds-known : (all : List Item) (p : Program) → names_of_kinds all ≡ kind_names p.kinds → (roots : List (List ℕ)) (rest : List What) → KnownBehind all roots rest
     → (more : List Kind) → Each more (IsFormedKind p) → KnownBehind all roots (flat_map (kind_lines (kind_names p.kinds)) more ++ rest)
-unfolding names_known line_known kind_lines
+unfolding names_known uses_known kind_lines
 kinds-known all p kinds roots rest further [] formed s n e = further s n e
 kinds-known all p kinds roots rest further (kind ∷ more) formed s n e =
     let names = kind_names p.kinds in

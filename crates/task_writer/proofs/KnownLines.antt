@@ -1,5 +1,5 @@
 -- The names that the lines of a well-formed program are written with are known.
-use Rattle.std.proofs.Common.{◌≡◌, ℕ, ◌+◌, ◌<◌, List, [], ◌∷◌, ◌++◌, map, length, slice_get, Some, Ok, refl, sym, ◌∙◌, ap, subst, append_assoc}
+use Rattle.std.proofs.Common.{◌≡◌, ℕ, ◌+◌, ◌<◌, true, List, [], ◌∷◌, ◌++◌, map, length, slice_get, Some, Ok, refl, sym, ◌∙◌, ap, subst, append_assoc}
 use Rattle.std.proofs.lemmas.List.{length-append}
 use Rattle.task_syntax.specs.Places.{EachAt}
 use Rattle.task_syntax.specs.Form.{IsWellFormed, IsFormedRoot, IsFormedRootArgument}
@@ -9,34 +9,35 @@ use Rattle.task_syntax.specs.declared.program.Root.{Root}
 use Rattle.task_syntax.specs.declared.program.Program.{Program}
 use Rattle.task_lines.specs.declared.item.Item.{Item}
 use Rattle.task_lines.specs.Scope.{after, first_scope}
-use Rattle.task_reader.specs.Names.{Known, known_at, root_known, root_term_known, line_known, names_known, kind_names as names_of_kinds}
+use Rattle.task_reader.specs.Uses.{UsesRoot, root_term_use}
+use Rattle.task_reader.proofs.Known.{given-known, given-both}
+use Rattle.task_reader.specs.Names.{Known, known_at, is_given, line_known, names_known, kind_names as names_of_kinds}
 use Rattle.task_writer.specs.Lines.{name_at, kind_names, root_names, root_term_of, root_line, lines_of_program}
 use Rattle.task_writer.proofs.Itemized.{items_at}
 use Rattle.task_writer.proofs.ReadPlaces.{name-among}
 use Rattle.task_writer.proofs.ReadCode.{IsFrom, from-start, from-next, from-here}
 use Rattle.task_writer.proofs.ReadRoots.{earlier-name}
 use Rattle.task_writer.proofs.ReadProgram.{names-back}
-use Rattle.task_writer.proofs.KnownSteps.{and-then, is-known, each-in, behind-in, kind-in}
+use Rattle.task_writer.proofs.KnownSteps.{and-then, each-in, behind-in, kind-in}
 use Rattle.task_writer.proofs.KnownKinds.{KnownBehind, kinds-known}
 
 root-in : (k : Known) (earlier names : List (List ℕ)) → k.roots ≡ earlier → ((at : ℕ) → at < length earlier → slice_get earlier at ≡ Some (name_at names at))
-    → (line word at : ℕ) → at < length earlier → root_known k line word (name_at names at) ≡ Ok tt
-root-in k earlier names e named line word at l = is-known line word _ (rw e (name-among earlier at (name_at names at) (named at l)))
+    → (at : ℕ) → at < length earlier → is_given k (UsesRoot (name_at names at)) ≡ true
+root-in k earlier names e named at l = rw e (name-among earlier at (name_at names at) (named at l))
 
 root-term-in : (k : Known) (earlier names : List (List ℕ)) → k.roots ≡ earlier → ((at : ℕ) → at < length earlier → slice_get earlier at ≡ Some (name_at names at))
-    → (line word : ℕ) (a : RootArgument) → IsFormedRootArgument (length earlier) a → root_term_known k line word (root_term_of names a) ≡ Ok tt
-root-term-in k earlier names e named line word (root_argument.Number n) formed = refl
-root-term-in k earlier names e named line word (root_argument.Root at) formed = root-in k earlier names e named line word at formed
+    → (a : RootArgument) → IsFormedRootArgument (length earlier) a → is_given k (root_term_use (root_term_of names a)) ≡ true
+root-term-in k earlier names e named (root_argument.Number n) formed = refl
+root-term-in k earlier names e named (root_argument.Root at) formed = root-in k earlier names e named at formed
 
 root-known : (k : Known) (p : Program) → k.kinds ≡ kind_names p.kinds → (earlier names : List (List ℕ)) → k.roots ≡ earlier
     → ((at : ℕ) → at < length earlier → slice_get earlier at ≡ Some (name_at names at)) → (line : ℕ) (root : Root) → IsFormedRoot p (length earlier) root
     → line_known k line (root_line (kind_names p.kinds) names root) ≡ Ok tt
-unfolding line_known root_line
+unfolding root_line
 root-known k p kinds earlier names e named line root formed =
-    and-then _ _ (
-    and-then _ _ (kind-in k.kinds p kinds line 3 root.kind formed.kind)
-    (each-in (root_term_known k line) (root_term_of names) (IsFormedRootArgument (length earlier)) (λ word a f. root-term-in k earlier names e named line word a f) 4 root.arguments formed.arguments)
-    ) (behind-in (root_known k line) (name_at names) (λ at. at < length earlier) (λ word at l. root-in k earlier names e named line word at l) _ root.behind formed.behind)
+    let arguments = each-in k root_term_use (root_term_of names) (IsFormedRootArgument (length earlier)) (λ a f. root-term-in k earlier names e named a f) root.arguments formed.arguments in
+    let behind = behind-in k UsesRoot (name_at names) (λ at. at < length earlier) (λ at l. root-in k earlier names e named at l) root.behind formed.behind in
+    given-known k line 1 _ (refl, (refl, (kind-in k.kinds p kinds root.kind formed.kind, given-both k _ _ arguments behind)))
 
 -- the roots from one on, behind those with the earlier names
 roots-known : (all : List Item) (p : Program) → names_of_kinds all ≡ kind_names p.kinds → EachAt p.roots (IsFormedRoot p)

@@ -3,14 +3,12 @@ use Rattle.std.proofs.Common.{◌≡◌, ◌≢◌, ℕ, suc, ◌+◌, true, Opt
 use Rattle.std.specs.List.{flat_map}
 use Rattle.std.proofs.Math.Seq.{take-append_seam, drop-append_seam}
 use Rattle.task_syntax.specs.Names.{same_bytes}
-use Rattle.task_syntax.specs.declared.program.Sort.TheVariants as sort
 use Rattle.task_syntax.specs.declared.program.Variable.{Variable}
 use Rattle.task_syntax.specs.declared.program.State.{State}
 use Rattle.task_syntax.specs.declared.program.Kind.{Kind}
 use Rattle.task_syntax.specs.declared.value.Priority.{Priority}
 use Rattle.task_syntax.specs.declared.instr.Line.{Line}
 use Rattle.task_syntax.proofs.Differ.{get-front}
-use Rattle.task_text.specs.Fault.{◌>>◌}
 use Rattle.task_text.specs.Scan.{is_among}
 use Rattle.task_lines.specs.declared.step.Step.{Step}
 use Rattle.task_lines.specs.declared.step.Step.TheVariants.{Goto, Label, Again, Done}
@@ -22,13 +20,14 @@ use Rattle.task_lines.specs.declared.item.Item.{Item}
 use Rattle.task_lines.specs.declared.scope.Place.{Place}
 use Rattle.task_lines.specs.declared.scope.Place.TheVariants.{Outside, Head, Code, Ended}
 use Rattle.task_lines.specs.declared.scope.Scope.{Scope}
-use Rattle.task_lines.specs.Scope.{first_scope, after, place_behind, has_variable}
+use Rattle.task_lines.specs.Scope.{first_scope, after, place_behind}
 use Rattle.task_lines.specs.Grammar.{IsInState, MayBegin, MayFollow}
 use Rattle.task_reader.specs.declared.positions.Positions.{Positions}
-use Rattle.task_reader.specs.Names.{words_of_list, known, future_known, root_known, root_term_known, each_known, behind_known, known_at, step_known, line_known, names_known, label_names}
+use Rattle.task_reader.specs.Uses.{UsesFuture, UsesRoot, root_term_use, behind_uses, futures_uses, root_uses, state_uses, step_uses}
+use Rattle.task_reader.specs.Names.{Known, is_given, known_at, uses_known, line_known, names_known, label_names}
 use Rattle.task_reader.specs.Names as reader
 use Rattle.task_reader.specs.Program.{place_of, future_place, instr_of, steps_to, code_from, state_of, states_from, variables_from, kind_of, kinds_from, root_argument_of, root_of, roots_from, program_of}
-use Rattle.task_reader.proofs.Known.{both-known, known-true}
+use Rattle.task_reader.proofs.Known.{AllGiven, both-known, all-given, given-parts, futures-given, same-futures}
 use Rattle.task_reader.proofs.FormedSteps.{known_for}
 use Rattle.task_reader.proofs.FormedCode.{known-is}
 use Rattle.task_reader.proofs.Places.{place-where, same-name}
@@ -143,18 +142,18 @@ code-of-step : (all : List Item) (kinds roots : List (List ℕ)) → reader.kind
     → s.variables ≡ positions.variables → s.states ++ reader.state_names items ≡ positions.states
     → ((j : ℕ) → slice_get state.code (at + j) ≡ slice_get (code_from positions at (item_at line (what.Step step) ∷ items)) j)
     → whats (item_at line (what.Step step) ∷ items) ≡ code_lines (names_in kinds kind state) (code_from positions at (item_at line (what.Step step) ∷ items)) ++ InStates kinds roots positions kind s (item_at line (what.Step step) ∷ items)
-unfolding code_from states_from kinds_from roots_from names_known line_known
+unfolding code_from states_from kinds_from roots_from names_known
 code-of-step all kinds roots named line step items c s positions kind has state at given variables states code =
     ap (λ ws. what.Step step ∷ ws) (c.code (after s (what.Step step)) positions kind has state (at + 1) (in-state step) behind variables states ahead)
     ∙ ap (λ z. what.Step z ∷ (code_lines (names_in kinds kind state) (code_from positions (at + 1) items) ++ InStates kinds roots positions kind s items)) (sym same) where
-      parts : (step_known (known_at all s items) line step ≡ Ok tt) × (names_known all (after s (what.Step step)) items ≡ Ok tt)
-      parts = both-known (step_known (known_at all s items) line step) (names_known all (after s (what.Step step)) items) given.known
+      parts : (uses_known (known_at all s items) line 1 (step_uses step) ≡ Ok tt) × (names_known all (after s (what.Step step)) items ≡ Ok tt)
+      parts = both-known (uses_known (known_at all s items) line 1 (step_uses step)) (names_known all (after s (what.Step step)) items) given.known
 
       behind : IsGiven all roots (after s (what.Step step)) items
       behind = record { stand = given.stand.2; known = parts.1; ordered = given.ordered.1; roots_are = given.roots_are }
 
-      here : step_known (known_for positions (label_names items) s.roots) line step ≡ Ok tt
-      here = subst (λ k. step_known k line step ≡ Ok tt) (known-is positions all s items (named ∙ sym has.kinds_are) variables states) parts.0
+      here : AllGiven (known_for positions (label_names items) s.roots) (step_uses step)
+      here = subst (λ k. AllGiven k (step_uses step)) (known-is positions all s items (named ∙ sym has.kinds_are) variables states) (all-given (known_at all s items) line 1 (step_uses step) parts.0)
 
       ahead : (j : ℕ) → slice_get state.code ((at + 1) + j) ≡ slice_get (code_from positions (at + 1) items) j
       ahead j = let e : (at + 1) + j ≡ at + suc j = omega arith in ap (λ n. slice_get state.code n) e ∙ code (suc j)
@@ -165,7 +164,7 @@ code-of-step all kinds roots named line step items c s positions kind has state 
 
       same : step_of (names_in kinds kind state) (instr_of positions (λ name. at + 1 + steps_to name items) step) ≡ step
       same = ap (λ (n : Names). step_of n (instr_of positions (λ name. at + 1 + steps_to name items) step)) (sym (names-same positions kinds kind (lines.label_names state.code) has))
-          ∙ step-same positions (label_names items) s.roots (lines.label_names state.code) (λ name. at + 1 + steps_to name items) label line step here
+          ∙ step-same positions (label_names items) s.roots (lines.label_names state.code) (λ name. at + 1 + steps_to name items) label step here
 
 -- ---- states
 
@@ -173,7 +172,7 @@ state-of-line : (all : List Item) (kinds roots : List (List ℕ)) → reader.kin
     → (s : Scope) (positions : Positions) (kind : Kind) → HasNames positions kinds kind → IsGiven all roots s (item_at line (what.State name holds settled) ∷ items)
     → s.variables ≡ positions.variables → s.states ++ (name ∷ reader.state_names items) ≡ positions.states
     → whats (item_at line (what.State name holds settled) ∷ items) ≡ InStates kinds roots positions kind s (item_at line (what.State name holds settled) ∷ items)
-unfolding states_from kinds_from roots_from names_known line_known state_lines
+unfolding states_from kinds_from roots_from names_known state_lines
 state-of-line all kinds roots named line name holds settled items c s positions kind has given variables states =
     ap (λ ws. what.State name holds settled ∷ ws) (c.code behind positions kind has state 0 tt further variables (append_assoc s.states (name ∷ []) (reader.state_names items) ∙ states) code)
     ∙ (ap (λ (hs : List (List ℕ)). what.State name hs settled ∷ body) (sym held_same)
@@ -192,11 +191,11 @@ state-of-line all kinds roots named line name holds settled items c s positions 
       write : ℕ → List ℕ
       write = name_at (variable_names kind.variables)
 
-      parts : ((each_known (future_known (known_at all s items) line) 4 holds >> each_known (future_known (known_at all s items) line) (4 + words_of_list holds) settled) ≡ Ok tt) × (names_known all behind items ≡ Ok tt)
-      parts = both-known _ (names_known all behind items) given.known
+      parts : (line_known (known_at all s items) line (what.State name holds settled) ≡ Ok tt) × (names_known all behind items ≡ Ok tt)
+      parts = both-known (line_known (known_at all s items) line (what.State name holds settled)) (names_known all behind items) given.known
 
-      lists : (each_known (future_known (known_at all s items) line) 4 holds ≡ Ok tt) × (each_known (future_known (known_at all s items) line) (4 + words_of_list holds) settled ≡ Ok tt)
-      lists = both-known _ _ parts.0
+      lists : AllGiven (known_at all s items) (futures_uses holds) × AllGiven (known_at all s items) (futures_uses settled)
+      lists = given-parts (known_at all s items) (futures_uses holds) (futures_uses settled) (all-given (known_at all s items) line 1 (state_uses holds settled) parts.0).1.1
 
       further : IsGiven all roots behind items
       further = record { stand = given.stand.2; known = parts.1; ordered = given.ordered.1; roots_are = given.roots_are }
@@ -204,23 +203,23 @@ state-of-line all kinds roots named line name holds settled items c s positions 
       code : (j : ℕ) → slice_get state.code (0 + j) ≡ slice_get (code_from positions 0 items) j
       code j = let z : 0 + j ≡ j = omega arith in ap (λ n. slice_get state.code n) z
 
-      futures : (word : ℕ) (names : List (List ℕ)) → each_known (future_known (known_at all s items) line) word names ≡ Ok tt → map write (map (future_place positions.variables) names) ≡ names
-      futures word names e =
+      futures : (names : List (List ℕ)) → AllGiven (known_at all s items) (map UsesFuture names) → map write (map (future_place positions.variables) names) ≡ names
+      futures names g =
           ap (λ (vs : List Variable). map (name_at (variable_names vs)) (map (future_place positions.variables) names)) (sym has.variables_are)
-          ∙ futures-same positions [] [] line word names (subst (λ vs. each_known (λ w name. known line w (has_variable vs sort.Future name)) word names ≡ Ok tt) variables e)
+          ∙ futures-same positions [] [] names (same-futures (known_at all s items) (known_for positions [] []) variables names g)
 
       held_same : map write (map (future_place positions.variables) holds) ≡ holds
-      held_same = futures 4 holds lists.0
+      held_same = futures holds (futures-given (known_at all s items) holds lists.0)
 
       settled_same : map write (map (future_place positions.variables) settled) ≡ settled
-      settled_same = futures (4 + words_of_list holds) settled lists.1
+      settled_same = futures settled (futures-given (known_at all s items) settled lists.1)
 
 code-step : (all : List Item) (kinds roots : List (List ℕ)) → reader.kind_names all ≡ kinds → (line : ℕ) (w : What) (items : List Item) → Claims all kinds roots items
     → (s : Scope) (positions : Positions) (kind : Kind) → HasNames positions kinds kind → (state : State) (at : ℕ) → IsInState s.place → IsGiven all roots s (item_at line w ∷ items)
     → s.variables ≡ positions.variables → s.states ++ reader.state_names (item_at line w ∷ items) ≡ positions.states
     → ((j : ℕ) → slice_get state.code (at + j) ≡ slice_get (code_from positions at (item_at line w ∷ items)) j)
     → whats (item_at line w ∷ items) ≡ code_lines (names_in kinds kind state) (code_from positions at (item_at line w ∷ items)) ++ InStates kinds roots positions kind s (item_at line w ∷ items)
-unfolding code_from states_from kinds_from roots_from names_known line_known
+unfolding code_from states_from kinds_from roots_from names_known uses_known
 code-step all kinds roots named line (what.Kind name arguments) items c s positions kind has state at is given variables states code = absurd (no-state s.place is given.stand.1.0)
 code-step all kinds roots named line (what.Var more) items c s positions kind has state at is given variables states code = absurd (no-head s.place is given.stand.1.0)
 code-step all kinds roots named line (what.State name holds settled) items c s positions kind has state at is given variables states code =
@@ -253,7 +252,7 @@ head-step : (all : List Item) (kinds roots : List (List ℕ)) → reader.kind_na
     → (s : Scope) (positions : Positions) (kind : Kind) → HasNames positions kinds kind → s.place ≡ Head → IsGiven all roots s (item_at line w ∷ items)
     → s.variables ++ variables_from (item_at line w ∷ items) ≡ positions.variables → s.states ++ reader.state_names (item_at line w ∷ items) ≡ positions.states
     → whats (item_at line w ∷ items) ≡ var_lines (variables_from (item_at line w ∷ items)) ++ InStates kinds roots positions kind s (item_at line w ∷ items)
-unfolding states_from kinds_from roots_from names_known line_known
+unfolding states_from kinds_from roots_from names_known uses_known
 head-step all kinds roots named line (what.Var more) items c s positions kind has is given variables states =
     let none = no-variables items given.ordered.0 in
     let whole : s.variables ++ more ≡ positions.variables = ap (λ z. s.variables ++ z) (sym (append-nil more) ∙ ap (λ z. more ++ z) (sym none)) ∙ variables in
@@ -266,7 +265,7 @@ head-step all kinds roots named line w items c s positions kind has is given var
 kind-of-line : (all : List Item) (kinds roots : List (List ℕ)) (line : ℕ) (name : List ℕ) (arguments : List Variable) (items : List Item) → Claims all kinds roots items
     → (s : Scope) → IsGiven all roots s (item_at line (what.Kind name arguments) ∷ items)
     → whats (item_at line (what.Kind name arguments) ∷ items) ≡ later kinds roots s.roots (item_at line (what.Kind name arguments) ∷ items)
-unfolding kinds_from roots_from kind_of kind_lines names_known line_known
+unfolding kinds_from roots_from kind_of kind_lines names_known uses_known
 kind-of-line all kinds roots line name arguments items c s given =
     ap (λ ws. what.Kind name arguments ∷ ws) (c.head (after s (what.Kind name arguments)) positions kind has refl (record { stand = given.stand.2; known = given.known; ordered = given.ordered.1; roots_are = given.roots_are }) refl refl)
     ∙ (ap (λ (vs : List Variable). what.Kind name vs ∷ (var_lines (variables_from items) ++ (states ++ (what.End ∷ (more ++ last))))) (sym (take-append_seam arguments (variables_from items)))
@@ -306,30 +305,33 @@ earlier-same earlier more all name e h =
 root-same : (all : List Item) (kinds roots : List (List ℕ)) → reader.kind_names all ≡ kinds → (line : ℕ) (name callee : List ℕ) (arguments : List RootTerm) (behind : Option (List ℕ)) (priority : Priority) (items : List Item)
     → (s : Scope) (more : List (List ℕ)) → s.roots ++ more ≡ roots → line_known (known_at all s items) line (what.Root name callee arguments behind priority) ≡ Ok tt
     → root_line kinds roots (root_of kinds s.roots line name callee arguments behind priority) ≡ what.Root name callee arguments behind priority
-unfolding root_line root_of line_known
+unfolding root_line root_of
 root-same all kinds roots named line name callee arguments behind priority items s more e known_ =
     rw (place-same kinds callee callee_known, arguments_same, behind_same) refl where
-      parts : ((known line 3 (is_among (reader.kind_names all) callee) >> each_known (root_term_known (known_at all s items) line) 4 arguments) ≡ Ok tt) × (behind_known (root_known (known_at all s items) line) (4 + length arguments) behind ≡ Ok tt)
-      parts = both-known _ _ known_
+      k : Known
+      k = known_at all s items
 
-      front : (known line 3 (is_among (reader.kind_names all) callee) ≡ Ok tt) × (each_known (root_term_known (known_at all s items) line) 4 arguments ≡ Ok tt)
-      front = both-known _ _ parts.0
+      given : AllGiven k (root_uses callee arguments behind)
+      given = all-given k line 1 (root_uses callee arguments behind) known_
+
+      parts : AllGiven k (map root_term_use arguments) × AllGiven k (behind_uses UsesRoot behind)
+      parts = given-parts k (map root_term_use arguments) (behind_uses UsesRoot behind) given.1.1.1
 
       callee_known : is_among kinds callee ≡ true
-      callee_known = ap (λ ns. is_among ns callee) (sym named) ∙ known-true line 3 (is_among (reader.kind_names all) callee) front.0
+      callee_known = ap (λ ns. is_among ns callee) (sym named) ∙ given.1.1.0
 
-      one : (word : ℕ) (name : List ℕ) → root_known (known_at all s items) line word name ≡ Ok tt → name_at roots (place_of s.roots name) ≡ name
-      one word name k = earlier-same s.roots more roots name e (known-true line word (is_among s.roots name) k)
+      one : (name : List ℕ) → is_among s.roots name ≡ true → name_at roots (place_of s.roots name) ≡ name
+      one name h = earlier-same s.roots more roots name e h
 
-      term : (word : ℕ) (t : RootTerm) → root_term_known (known_at all s items) line word t ≡ Ok tt → root_term_of roots (root_argument_of s.roots t) ≡ t
-      term word (root_term.Number n) k = refl
-      term word (root_term.Root name) k = ap (λ n. root_term.Root n) (one word name k)
+      term : (t : RootTerm) → is_given k (root_term_use t) ≡ true → root_term_of roots (root_argument_of s.roots t) ≡ t
+      term (root_term.Number n) h = refl
+      term (root_term.Root name) h = ap (λ n. root_term.Root n) (one name h)
 
       arguments_same : map (root_term_of roots) (map (root_argument_of s.roots) arguments) ≡ arguments
-      arguments_same = each-same (root_term_known (known_at all s items) line) (root_argument_of s.roots) (root_term_of roots) term 4 arguments front.1
+      arguments_same = each-same k root_term_use (root_argument_of s.roots) (root_term_of roots) term arguments parts.0
 
       behind_same : option_map (name_at roots) (option_map (place_of s.roots) behind) ≡ behind
-      behind_same = behind-same (root_known (known_at all s items) line) (place_of s.roots) (name_at roots) one (4 + length arguments) behind parts.1
+      behind_same = behind-same k UsesRoot (place_of s.roots) (name_at roots) one behind parts.1
 
 root-of-line : (all : List Item) (kinds roots : List (List ℕ)) → reader.kind_names all ≡ kinds → (line : ℕ) (name callee : List ℕ) (arguments : List RootTerm) (behind : Option (List ℕ)) (priority : Priority) (items : List Item)
     → Claims all kinds roots items → (s : Scope) → s.place ≡ Outside → IsGiven all roots s (item_at line (what.Root name callee arguments behind priority) ∷ items)

@@ -1,5 +1,5 @@
 -- An instruction that is read is written with the names that it was read with.
-use Rattle.std.proofs.Common.{◌≡◌, ℕ, ◌+◌, add-one, Bool, true, false, ◌||◌, cond, Option, Some, None, option_map, unwrap_or, List, [], ◌∷◌, map, length, slice_get, Result, Ok, refl, sym, ◌∙◌, ap}
+use Rattle.std.proofs.Common.{◌≡◌, ℕ, ◌+◌, add-one, Bool, true, false, ◌||◌, cond, Option, Some, None, option_map, unwrap_or, List, [], ◌∷◌, map, slice_get, refl, sym, ◌∙◌, ap}
 use Rattle.task_syntax.specs.Names.{same_bytes}
 use Rattle.task_syntax.specs.declared.program.Sort.{Sort}
 use Rattle.task_syntax.specs.declared.program.Sort.TheVariants as sort
@@ -7,8 +7,6 @@ use Rattle.task_syntax.specs.declared.program.Variable.{Variable}
 use Rattle.task_syntax.specs.declared.program.Kind.{Kind}
 use Rattle.task_syntax.specs.declared.instr.Line.{Line}
 use Rattle.task_text.specs.Scan.{is_among}
-use Rattle.task_text.specs.Fault.{◌>>◌}
-use Rattle.task_text.specs.declared.fault.Fault.{Fault}
 use Rattle.task_lines.specs.declared.step.Term.{Term}
 use Rattle.task_lines.specs.declared.step.Term.TheVariants as term
 use Rattle.task_lines.specs.declared.step.Passed.{Passed}
@@ -20,9 +18,10 @@ use Rattle.task_lines.specs.declared.item.What.TheVariants as what
 use Rattle.task_lines.specs.declared.item.Item.{Item}
 use Rattle.task_lines.specs.Scope.{has_variable, is_variable}
 use Rattle.task_reader.specs.declared.positions.Positions.{Positions}
-use Rattle.task_reader.specs.Names.{known, number_known, future_known, term_known, passed_known, each_known, behind_known, step_known, label_names}
+use Rattle.task_reader.specs.Uses.{Use, UsesFuture, term_use, passed_use, behind_uses, step_uses}
+use Rattle.task_reader.specs.Names.{Known, is_given, label_names}
 use Rattle.task_reader.specs.Program.{place_of, place_where, number_place, future_place, operand_of, argument_of, instr_of, steps_to, code_from}
-use Rattle.task_reader.proofs.Known.{both-known, known-true}
+use Rattle.task_reader.proofs.Known.{AllGiven, given-parts}
 use Rattle.task_reader.proofs.FormedSteps.{known_for}
 use Rattle.task_reader.proofs.Places.{place-where, same-name, variable-place}
 use Rattle.task_writer.specs.Lines.{Names, name_at, variable_names, state_names, label_of, term_of, passed_of, step_of}
@@ -48,41 +47,42 @@ pub record HasNames (positions : Positions) (kinds : List (List ℕ)) (kind : Ki
   pub variables_are : positions.variables ≡ kind.variables
   pub states_are : positions.states ≡ state_names kind.states
 
-number-same : (positions : Positions) (labels roots : List (List ℕ)) (line word : ℕ) (name : List ℕ) → number_known (known_for positions labels roots) line word name ≡ Ok tt
+number-same : (positions : Positions) (name : List ℕ) → has_variable positions.variables sort.Number name ≡ true
     → name_at (variable_names positions.variables) (number_place positions.variables name) ≡ name
-number-same positions labels roots line word name e = variable-same sort.Number name positions.variables (known-true line word (has_variable positions.variables sort.Number name) e)
+number-same positions name e = variable-same sort.Number name positions.variables e
 
-future-same : (positions : Positions) (labels roots : List (List ℕ)) (line word : ℕ) (name : List ℕ) → future_known (known_for positions labels roots) line word name ≡ Ok tt
+future-same : (positions : Positions) (name : List ℕ) → has_variable positions.variables sort.Future name ≡ true
     → name_at (variable_names positions.variables) (future_place positions.variables name) ≡ name
-future-same positions labels roots line word name e = variable-same sort.Future name positions.variables (known-true line word (has_variable positions.variables sort.Future name) e)
+future-same positions name e = variable-same sort.Future name positions.variables e
 
-term-same : (positions : Positions) (labels roots : List (List ℕ)) (line word : ℕ) (t : Term) → term_known (known_for positions labels roots) line word t ≡ Ok tt
+term-same : (positions : Positions) (labels roots : List (List ℕ)) (t : Term) → is_given (known_for positions labels roots) (term_use t) ≡ true
     → term_of (variable_names positions.variables) (operand_of positions t) ≡ t
-term-same positions labels roots line word (term.Literal n) e = refl
-term-same positions labels roots line word (term.Variable name) e = ap (λ n. term.Variable n) (number-same positions labels roots line word name e)
+term-same positions labels roots (term.Literal n) e = refl
+term-same positions labels roots (term.Variable name) e = ap (λ n. term.Variable n) (number-same positions name e)
 
-passed-same : (positions : Positions) (labels roots : List (List ℕ)) (line word : ℕ) (a : Passed) → passed_known (known_for positions labels roots) line word a ≡ Ok tt
+passed-same : (positions : Positions) (labels roots : List (List ℕ)) (a : Passed) → is_given (known_for positions labels roots) (passed_use a) ≡ true
     → passed_of (variable_names positions.variables) (argument_of positions a) ≡ a
-passed-same positions labels roots line word (passed.Number t) e = ap (λ x. passed.Number x) (term-same positions labels roots line word t e)
-passed-same positions labels roots line word (passed.Future name) e = ap (λ n. passed.Future n) (future-same positions labels roots line word name e)
+passed-same positions labels roots (passed.Number t) e = ap (λ x. passed.Number x) (term-same positions labels roots t e)
+passed-same positions labels roots (passed.Future name) e = ap (λ n. passed.Future n) (future-same positions name e)
 
-pub each-same : {A B : Type 0} (check : ℕ → A → Result (Unit {0}) Fault) (read : A → B) (write : B → A) → ((word : ℕ) (a : A) → check word a ≡ Ok tt → write (read a) ≡ a)
-    → (word : ℕ) (xs : List A) → each_known check word xs ≡ Ok tt → map write (map read xs) ≡ xs
-unfolding each_known
-each-same check read write one word [] e = refl
-each-same check read write one word (a ∷ xs) e =
-    let b = both-known (check word a) (each_known check (word + 1) xs) e in
-    ap (λ z. z ∷ map write (map read xs)) (one word a b.0) ∙ ap (λ zs. a ∷ zs) (each-same check read write one (word + 1) xs b.1)
+-- each member of a list that is given is written as it was read
+pub each-same : {A B : Type 0} (k : Known) (use_of : A → Use) (read : A → B) (write : B → A) → ((a : A) → is_given k (use_of a) ≡ true → write (read a) ≡ a)
+    → (xs : List A) → AllGiven k (map use_of xs) → map write (map read xs) ≡ xs
+each-same k use_of read write one [] g = refl
+each-same k use_of read write one (a ∷ xs) g =
+    ap (λ z. z ∷ map write (map read xs)) (one a g.0) ∙ ap (λ zs. a ∷ zs) (each-same k use_of read write one xs g.1)
 
-pub behind-same : (check : ℕ → List ℕ → Result (Unit {0}) Fault) (read : List ℕ → ℕ) (write : ℕ → List ℕ) → ((word : ℕ) (name : List ℕ) → check word name ≡ Ok tt → write (read name) ≡ name)
-    → (word : ℕ) (behind : Option (List ℕ)) → behind_known check word behind ≡ Ok tt → option_map write (option_map read behind) ≡ behind
-behind-same check read write one word None e = refl
-behind-same check read write one word (Some name) e = ap Some (one (word + 1) name e)
+-- a predecessor that is given is written as it was read
+pub behind-same : (k : Known) (use_of : List ℕ → Use) (read : List ℕ → ℕ) (write : ℕ → List ℕ) → ((name : List ℕ) → is_given k (use_of name) ≡ true → write (read name) ≡ name)
+    → (behind : Option (List ℕ)) → AllGiven k (behind_uses use_of behind) → option_map write (option_map read behind) ≡ behind
+behind-same k use_of read write one None g = refl
+behind-same k use_of read write one (Some name) g = ap Some (one name g.1.0)
 
-pub futures-same : (positions : Positions) (labels roots : List (List ℕ)) (line word : ℕ) (names : List (List ℕ)) → each_known (future_known (known_for positions labels roots) line) word names ≡ Ok tt
+-- futures that are given are written as they were read
+pub futures-same : (positions : Positions) (labels roots : List (List ℕ)) (names : List (List ℕ)) → AllGiven (known_for positions labels roots) (map UsesFuture names)
     → map (name_at (variable_names positions.variables)) (map (future_place positions.variables) names) ≡ names
-futures-same positions labels roots line word names e =
-    each-same (future_known (known_for positions labels roots) line) (future_place positions.variables) (name_at (variable_names positions.variables)) (future-same positions labels roots line) word names e
+futures-same positions labels roots names g =
+    each-same (known_for positions labels roots) UsesFuture (future_place positions.variables) (name_at (variable_names positions.variables)) (future-same positions) names g
 
 -- ---- instructions
 
@@ -90,63 +90,41 @@ futures-same positions labels roots line word names e =
 abbrev pub names_for : Positions → List (List ℕ) → Names
 names_for positions labels = record { kinds = positions.kinds; variables = variable_names positions.variables; states = positions.states; labels = labels }
 
+-- an instruction whose names are given is written as it was read
 pub step-same : (positions : Positions) (labels roots places : List (List ℕ)) (label_place : List ℕ → ℕ) → ((name : List ℕ) → is_among labels name ≡ true → name_at places (label_place name) ≡ name)
-    → (line : ℕ) (step : Step) → step_known (known_for positions labels roots) line step ≡ Ok tt → step_of (names_for positions places) (instr_of positions label_place step) ≡ step
-unfolding step_known instr_of step_of
-step-same positions labels roots places label_place at line (Set to value) e =
+    → (step : Step) → AllGiven (known_for positions labels roots) (step_uses step) → step_of (names_for positions places) (instr_of positions label_place step) ≡ step
+unfolding instr_of step_of
+step-same positions labels roots places label_place at (Set to value) g = rw (number-same positions to g.1.0, term-same positions labels roots value g.1.1.0) refl
+step-same positions labels roots places label_place at (Math operation to left right) g =
+    rw (number-same positions to g.1.0, term-same positions labels roots left g.1.1.0, term-same positions labels roots right g.1.1.1.0) refl
+step-same positions labels roots places label_place at (If relation left right target) g =
+    rw (term-same positions labels roots left g.1.0, term-same positions labels roots right g.1.1.1.0, at target g.1.1.1.1.1.0) refl
+step-same positions labels roots places label_place at (Goto target) g = ap (λ n. Goto n) (at target g.1.0)
+step-same positions labels roots places label_place at (Label name) g = refl
+step-same positions labels roots places label_place at (Cell to column row) g =
+    rw (number-same positions to g.1.0, term-same positions labels roots row g.1.1.1.0) refl
+step-same positions labels roots places label_place at (Rows to column) g = rw (number-same positions to g.1.0) refl
+step-same positions labels roots places label_place at (Spawn to callee arguments behind priority retry) g =
     let k = known_for positions labels roots in
-    let b = both-known (number_known k line 2 to) (term_known k line 3 value) e in
-    rw (number-same positions labels roots line 2 to b.0, term-same positions labels roots line 3 value b.1) refl
-step-same positions labels roots places label_place at line (Math operation to left right) e =
-    let k = known_for positions labels roots in
-    let b = both-known (number_known k line 2 to >> term_known k line 3 left) (term_known k line 4 right) e in
-    let c = both-known (number_known k line 2 to) (term_known k line 3 left) b.0 in
-    rw (number-same positions labels roots line 2 to c.0, term-same positions labels roots line 3 left c.1, term-same positions labels roots line 4 right b.1) refl
-step-same positions labels roots places label_place at line (If relation left right target) e =
-    let k = known_for positions labels roots in
-    let b = both-known (term_known k line 2 left >> term_known k line 4 right) (known line 6 (is_among labels target)) e in
-    let c = both-known (term_known k line 2 left) (term_known k line 4 right) b.0 in
-    rw (term-same positions labels roots line 2 left c.0, term-same positions labels roots line 4 right c.1, at target (known-true line 6 (is_among labels target) b.1)) refl
-step-same positions labels roots places label_place at line (Goto target) e = ap (λ n. Goto n) (at target (known-true line 2 (is_among labels target) e))
-step-same positions labels roots places label_place at line (Label name) e = refl
-step-same positions labels roots places label_place at line (Cell to column row) e =
-    let k = known_for positions labels roots in
-    let b = both-known (number_known k line 2 to) (term_known k line 4 row) e in
-    rw (number-same positions labels roots line 2 to b.0, term-same positions labels roots line 4 row b.1) refl
-step-same positions labels roots places label_place at line (Rows to column) e = rw (number-same positions labels roots line 2 to e) refl
-step-same positions labels roots places label_place at line (Spawn to callee arguments behind priority retry) e =
-    let k = known_for positions labels roots in
-    let check = passed_known k line in
-    let b = both-known (future_known k line 2 to >> known line 3 (is_among k.kinds callee) >> each_known check 4 arguments) (behind_known (future_known k line) (4 + length arguments) behind) e in
-    let c = both-known (future_known k line 2 to >> known line 3 (is_among k.kinds callee)) (each_known check 4 arguments) b.0 in
-    let d = both-known (future_known k line 2 to) (known line 3 (is_among k.kinds callee)) c.0 in
+    let parts = given-parts k (map passed_use arguments) (behind_uses UsesFuture behind) g.1.1.1 in
     rw (
-      future-same positions labels roots line 2 to d.0,
-      place-same positions.kinds callee (known-true line 3 (is_among positions.kinds callee) d.1),
-      each-same check (argument_of positions) (passed_of (variable_names positions.variables)) (passed-same positions labels roots line) 4 arguments c.1,
-      behind-same (future_known k line) (future_place positions.variables) (name_at (variable_names positions.variables)) (future-same positions labels roots line) (4 + length arguments) behind b.1,
+      future-same positions to g.1.0,
+      place-same positions.kinds callee g.1.1.0,
+      each-same k passed_use (argument_of positions) (passed_of (variable_names positions.variables)) (passed-same positions labels roots) arguments parts.0,
+      behind-same k UsesFuture (future_place positions.variables) (name_at (variable_names positions.variables)) (future-same positions) behind parts.1,
     ) refl
-step-same positions labels roots places label_place at line (All to members priority retry) e =
+step-same positions labels roots places label_place at (All to members priority retry) g =
+    rw (future-same positions to g.1.0, futures-same positions labels roots members g.1.1) refl
+step-same positions labels roots places label_place at (Copy to source) g = rw (future-same positions to g.1.0, future-same positions source g.1.1.0) refl
+step-same positions labels roots places label_place at (Drop future) g = ap (λ n. Drop n) (future-same positions future g.1.0)
+step-same positions labels roots places label_place at (Get to future) g = rw (number-same positions to g.1.0, future-same positions future g.1.1.0) refl
+step-same positions labels roots places label_place at (Again target behind priority) g =
     let k = known_for positions labels roots in
-    let b = both-known (future_known k line 2 to) (each_known (future_known k line) 3 members) e in
-    rw (future-same positions labels roots line 2 to b.0, futures-same positions labels roots line 3 members b.1) refl
-step-same positions labels roots places label_place at line (Copy to source) e =
-    let k = known_for positions labels roots in
-    let b = both-known (future_known k line 2 to) (future_known k line 3 source) e in
-    rw (future-same positions labels roots line 2 to b.0, future-same positions labels roots line 3 source b.1) refl
-step-same positions labels roots places label_place at line (Drop future) e = ap (λ n. Drop n) (future-same positions labels roots line 2 future e)
-step-same positions labels roots places label_place at line (Get to future) e =
-    let k = known_for positions labels roots in
-    let b = both-known (number_known k line 2 to) (future_known k line 3 future) e in
-    rw (number-same positions labels roots line 2 to b.0, future-same positions labels roots line 3 future b.1) refl
-step-same positions labels roots places label_place at line (Again target behind priority) e =
-    let k = known_for positions labels roots in
-    let b = both-known (known line 2 (is_among k.states target)) (behind_known (future_known k line) 3 behind) e in
     rw (
-      place-same positions.states target (known-true line 2 (is_among positions.states target) b.0),
-      behind-same (future_known k line) (future_place positions.variables) (name_at (variable_names positions.variables)) (future-same positions labels roots line) 3 behind b.1,
+      place-same positions.states target g.1.0,
+      behind-same k UsesFuture (future_place positions.variables) (name_at (variable_names positions.variables)) (future-same positions) behind g.1.1,
     ) refl
-step-same positions labels roots places label_place at line (Done value) e = ap (λ v. Done v) (term-same positions labels roots line 2 value e)
+step-same positions labels roots places label_place at (Done value) g = ap (λ v. Done v) (term-same positions labels roots value g.1.0)
 
 -- ---- labels
 

@@ -39,7 +39,8 @@ fn relation_word(relation: Relation) -> &'static [u8]
 /// Writes a line of a fixed word and a name.
 #[tactic(auto, using(crate::proofs::Putting::lines))]
 fn put_named(out: &mut Vec<u8>, opening: &[u8], name: &[u8]) -> Result<(), AllocError>
-    ensures { OnOk result (out.new.items ≡ out.old.items ++ line_text (opening.now ∷ name.now ∷ [])) }
+    ensures { OnOk result
+        (out.new.items ≡ out.old.items ++ line_text (opening.now ∷ name.now ∷ [])) }
 {
     put_first(out, opening)?;
     put_word(out, name)?;
@@ -53,7 +54,10 @@ fn put_set(
     to: u16,
     value: Operand,
 ) -> Result<(), AllocError>
-    ensures { OnOk result (out.new.items ≡ out.old.items ++ line_text (codes "set" ∷ name_at (variable_names variables.now) to ∷ term_word (term_of (variable_names variables.now) value) ∷ [])) }
+    ensures { OnOk result
+        (out.new.items ≡ out.old.items
+        ++ line_text (codes "set" ∷ name_at (variable_names variables.now) to
+        ∷ term_word (term_of (variable_names variables.now) value) ∷ [])) }
 {
     put_first(out, b"set")?;
     put_word(out, variable_name(variables, to))?;
@@ -70,7 +74,11 @@ fn put_math(
     left: Operand,
     right: Operand,
 ) -> Result<(), AllocError>
-    ensures { OnOk result (out.new.items ≡ out.old.items ++ line_text (operation_word op ∷ name_at (variable_names variables.now) to ∷ term_word (term_of (variable_names variables.now) left) ∷ term_word (term_of (variable_names variables.now) right) ∷ [])) }
+    ensures { OnOk result
+        (out.new.items ≡ out.old.items
+        ++ line_text (operation_word op ∷ name_at (variable_names variables.now) to
+        ∷ term_word (term_of (variable_names variables.now) left)
+        ∷ term_word (term_of (variable_names variables.now) right) ∷ [])) }
 {
     put_first(out, operation_word(op))?;
     put_word(out, variable_name(variables, to))?;
@@ -88,7 +96,11 @@ fn put_if(
     right: Operand,
     target: &[u8],
 ) -> Result<(), AllocError>
-    ensures { OnOk result (out.new.items ≡ out.old.items ++ line_text (codes "if" ∷ term_word (term_of (variable_names variables.now) left) ∷ relation_word relation ∷ term_word (term_of (variable_names variables.now) right) ∷ codes "goto" ∷ target.now ∷ [])) }
+    ensures { OnOk result
+        (out.new.items ≡ out.old.items
+        ++ line_text (codes "if" ∷ term_word (term_of (variable_names variables.now) left)
+        ∷ relation_word relation ∷ term_word (term_of (variable_names variables.now) right)
+        ∷ codes "goto" ∷ target.now ∷ [])) }
 {
     put_first(out, b"if")?;
     put_operand(out, variables, left)?;
@@ -107,7 +119,10 @@ fn put_cell(
     column: &[u8],
     row: Operand,
 ) -> Result<(), AllocError>
-    ensures { OnOk result (out.new.items ≡ out.old.items ++ line_text (codes "cell" ∷ name_at (variable_names variables.now) to ∷ column.now ∷ term_word (term_of (variable_names variables.now) row) ∷ [])) }
+    ensures { OnOk result
+        (out.new.items ≡ out.old.items
+        ++ line_text (codes "cell" ∷ name_at (variable_names variables.now) to ∷ column.now
+        ∷ term_word (term_of (variable_names variables.now) row) ∷ [])) }
 {
     put_first(out, b"cell")?;
     put_word(out, variable_name(variables, to))?;
@@ -123,7 +138,9 @@ fn put_rows(
     to: u16,
     column: &[u8],
 ) -> Result<(), AllocError>
-    ensures { OnOk result (out.new.items ≡ out.old.items ++ line_text (codes "rows" ∷ name_at (variable_names variables.now) to ∷ column.now ∷ [])) }
+    ensures { OnOk result
+        (out.new.items ≡ out.old.items
+        ++ line_text (codes "rows" ∷ name_at (variable_names variables.now) to ∷ column.now ∷ [])) }
 {
     put_first(out, b"rows")?;
     put_word(out, variable_name(variables, to))?;
@@ -141,7 +158,11 @@ fn put_spawn(
     kind: u16,
     arguments: &[Argument],
 ) -> Result<(), AllocError>
-    ensures { OnOk result (out.new.items ≡ out.old.items ++ parted (codes "spawn" ∷ future_word (name_at (variable_names variables.now) to) ∷ name_at (kind_names kinds.now) kind ∷ map passed_word (map (passed_of (variable_names variables.now)) arguments.now))) }
+    ensures { OnOk result
+        (out.new.items ≡ out.old.items
+        ++ parted (codes "spawn" ∷ future_word (name_at (variable_names variables.now) to)
+        ∷ name_at (kind_names kinds.now) kind
+        ∷ map passed_word (map (passed_of (variable_names variables.now)) arguments.now))) }
 {
     put_first(out, b"spawn")?;
     put_future(out, variable_name(variables, to))?;
@@ -157,7 +178,10 @@ fn put_all(
     to: u16,
     members: &[u16],
 ) -> Result<(), AllocError>
-    ensures { OnOk result (out.new.items ≡ out.old.items ++ parted (codes "all" ∷ future_word (name_at (variable_names variables.now) to) ∷ map future_word (map (name_at (variable_names variables.now)) members.now))) }
+    ensures { OnOk result
+        (out.new.items ≡ out.old.items
+        ++ parted (codes "all" ∷ future_word (name_at (variable_names variables.now) to)
+        ∷ map future_word (map (name_at (variable_names variables.now)) members.now))) }
 {
     put_first(out, b"all")?;
     put_future(out, variable_name(variables, to))?;
@@ -167,7 +191,9 @@ fn put_all(
 /// Ends the line of an aggregate, or of a spawn.
 #[tactic(auto, using(crate::proofs::Putting::long_lines))]
 fn put_options(out: &mut Vec<u8>, priority: Priority, retry: bool) -> Result<(), AllocError>
-    ensures { OnOk result (out.new.items ≡ out.old.items ++ (spaced (priority_words priority ++ retry_words retry) ++ 10 ∷ [])) }
+    ensures { OnOk result
+        (out.new.items ≡ out.old.items
+        ++ (spaced (priority_words priority ++ retry_words retry) ++ 10 ∷ [])) }
 {
     put_priority(out, priority)?;
     put_retry(out, retry)?;
@@ -183,7 +209,10 @@ fn put_spawn_end(
     priority: Priority,
     retry: bool,
 ) -> Result<(), AllocError>
-    ensures { OnOk result (out.new.items ≡ out.old.items ++ (spaced (behind_words (option_map (name_at (variable_names variables.now)) behind) ++ (priority_words priority ++ retry_words retry)) ++ 10 ∷ [])) }
+    ensures { OnOk result
+        (out.new.items ≡ out.old.items
+        ++ (spaced (behind_words (option_map (name_at (variable_names variables.now)) behind)
+        ++ (priority_words priority ++ retry_words retry)) ++ 10 ∷ [])) }
 {
     put_behind(out, variables, behind)?;
     put_options(out, priority, retry)
@@ -191,7 +220,9 @@ fn put_spawn_end(
 
 #[tactic(auto, using(crate::proofs::Putting::lines))]
 fn put_copy(out: &mut Vec<u8>, to: &[u8], of: &[u8]) -> Result<(), AllocError>
-    ensures { OnOk result (out.new.items ≡ out.old.items ++ line_text (codes "copy" ∷ future_word to.now ∷ future_word of.now ∷ [])) }
+    ensures { OnOk result
+        (out.new.items ≡ out.old.items
+        ++ line_text (codes "copy" ∷ future_word to.now ∷ future_word of.now ∷ [])) }
 {
     put_first(out, b"copy")?;
     put_future(out, to)?;
@@ -201,7 +232,8 @@ fn put_copy(out: &mut Vec<u8>, to: &[u8], of: &[u8]) -> Result<(), AllocError>
 
 #[tactic(auto, using(crate::proofs::Putting::lines))]
 fn put_drop(out: &mut Vec<u8>, future: &[u8]) -> Result<(), AllocError>
-    ensures { OnOk result (out.new.items ≡ out.old.items ++ line_text (codes "drop" ∷ future_word future.now ∷ [])) }
+    ensures { OnOk result
+        (out.new.items ≡ out.old.items ++ line_text (codes "drop" ∷ future_word future.now ∷ [])) }
 {
     put_first(out, b"drop")?;
     put_future(out, future)?;
@@ -210,7 +242,9 @@ fn put_drop(out: &mut Vec<u8>, future: &[u8]) -> Result<(), AllocError>
 
 #[tactic(auto, using(crate::proofs::Putting::lines))]
 fn put_get(out: &mut Vec<u8>, to: &[u8], future: &[u8]) -> Result<(), AllocError>
-    ensures { OnOk result (out.new.items ≡ out.old.items ++ line_text (codes "get" ∷ to.now ∷ future_word future.now ∷ [])) }
+    ensures { OnOk result
+        (out.new.items ≡ out.old.items
+        ++ line_text (codes "get" ∷ to.now ∷ future_word future.now ∷ [])) }
 {
     put_first(out, b"get")?;
     put_word(out, to)?;
@@ -226,7 +260,11 @@ fn put_again(
     behind: Option<u16>,
     priority: Priority,
 ) -> Result<(), AllocError>
-    ensures { OnOk result (out.new.items ≡ out.old.items ++ line_text (codes "again" ∷ target.now ∷ (behind_words (option_map (name_at (variable_names variables.now)) behind) ++ priority_words priority))) }
+    ensures { OnOk result
+        (out.new.items ≡ out.old.items
+        ++ line_text (codes "again" ∷ target.now
+        ∷ (behind_words (option_map (name_at (variable_names variables.now)) behind)
+        ++ priority_words priority))) }
 {
     put_first(out, b"again")?;
     put_word(out, target)?;
@@ -237,7 +275,10 @@ fn put_again(
 
 #[tactic(auto, using(crate::proofs::Putting::lines))]
 fn put_done(out: &mut Vec<u8>, variables: &[Variable], value: Operand) -> Result<(), AllocError>
-    ensures { OnOk result (out.new.items ≡ out.old.items ++ line_text (codes "done" ∷ term_word (term_of (variable_names variables.now) value) ∷ [])) }
+    ensures { OnOk result
+        (out.new.items ≡ out.old.items
+        ++ line_text (codes "done" ∷ term_word (term_of (variable_names variables.now) value)
+        ∷ [])) }
 {
     put_first(out, b"done")?;
     put_operand(out, variables, value)?;
@@ -253,7 +294,10 @@ pub fn put_step(
     state: &State,
     instr: &Instr,
 ) -> Result<(), AllocError>
-    ensures { OnOk result (out.new.items ≡ out.old.items ++ line_text (step_words (step_of (names_in (kind_names kinds.now) kind.now state.now) instr.now))) }
+    ensures { OnOk result
+        (out.new.items ≡ out.old.items
+        ++ line_text (step_words
+        (step_of (names_in (kind_names kinds.now) kind.now state.now) instr.now))) }
 {
     let variables = kind.variables.as_slice();
     match instr {

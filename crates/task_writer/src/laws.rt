@@ -5,7 +5,8 @@ pub fn reads_back()
     ensures { ReadsBack }
 {}
 
-/// The law that a program keeps all but its line numbers when it is written and read. It does nothing when it runs.
+/// The law that a program keeps all but its line numbers when it is written and read. It
+/// does nothing when it runs.
 pub fn keeps_the_rest()
     ensures { KeepsTheRest }
 {}
@@ -20,7 +21,8 @@ pub fn prints_canonically()
     ensures { PrintsCanonically }
 {}
 
-/// The law that what is read from a canonical text is written as that very text. It does nothing when it runs.
+/// The law that what is read from a canonical text is written as that very text. It does nothing
+/// when it runs.
 pub fn prints_what_it_read()
     ensures { PrintsWhatItRead }
 {}

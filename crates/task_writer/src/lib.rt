@@ -1,7 +1,7 @@
 //! Task programs as text: writing them in one form, which reads back as the program.
 //!
-//! `specs/Text.antt` says what is written, `specs/Canonical.antt` what makes such a text canonical, and `specs/Laws.antt` what
-//! holds of it.
+//! `specs/Text.antt` says what is written, `specs/Canonical.antt` what makes such a text canonical,
+//! and `specs/Laws.antt` what holds of it.
 #![tactic(auto)]
 
 mod instr;

@@ -28,7 +28,13 @@ fn put_state_line(
     variables: &[Variable],
     state: &State,
 ) -> Result<(), AllocError>
-    ensures { OnOk result (out.new.items ≡ out.old.items ++ line_text (codes "state" ∷ state.now.name ∷ (futures_words (codes "holds") (map (name_at (variable_names variables.now)) state.now.holds) ++ futures_words (codes "settled") (map (name_at (variable_names variables.now)) state.now.settled)))) }
+    ensures { OnOk result
+        (out.new.items ≡ out.old.items
+        ++ line_text (codes "state" ∷ state.now.name
+        ∷ (futures_words (codes "holds")
+        (map (name_at (variable_names variables.now)) state.now.holds)
+        ++ futures_words (codes "settled")
+        (map (name_at (variable_names variables.now)) state.now.settled)))) }
 {
     put_first(out, b"state")?;
     put_word(out, state.name.as_bytes())?;
@@ -45,7 +51,10 @@ fn put_code(
     state: &State,
     code: &[Line],
 ) -> Result<(), AllocError>
-    ensures { OnOk result (out.new.items ≡ out.old.items ++ text_of_lines (code_lines (names_in (kind_names kinds.now) kind.now state.now) code.now)) }
+    ensures { OnOk result
+        (out.new.items ≡ out.old.items
+        ++ text_of_lines (code_lines (names_in (kind_names kinds.now) kind.now state.now)
+        code.now)) }
 {
     for line in code {
         put_step(out, kinds, kind, state, &line.instr)?;
@@ -61,7 +70,9 @@ fn put_state(
     kind: &Kind,
     state: &State,
 ) -> Result<(), AllocError>
-    ensures { OnOk result (out.new.items ≡ out.old.items ++ text_of_lines (state_lines (kind_names kinds.now) kind.now state.now)) }
+    ensures { OnOk result
+        (out.new.items ≡ out.old.items
+        ++ text_of_lines (state_lines (kind_names kinds.now) kind.now state.now)) }
 {
     put_state_line(out, kind.variables.as_slice(), state)?;
     put_code(out, kinds, kind, state, state.code.as_slice())
@@ -74,7 +85,9 @@ fn put_states(
     kind: &Kind,
     states: &[State],
 ) -> Result<(), AllocError>
-    ensures { OnOk result (out.new.items ≡ out.old.items ++ text_of_lines (flat_map (state_lines (kind_names kinds.now) kind.now) states.now)) }
+    ensures { OnOk result
+        (out.new.items ≡ out.old.items
+        ++ text_of_lines (flat_map (state_lines (kind_names kinds.now) kind.now) states.now)) }
 {
     for state in states {
         put_state(out, kinds, kind, state)?;
@@ -85,7 +98,9 @@ fn put_states(
 /// Writes the line of a kind.
 #[tactic(auto, using(crate::proofs::Putting::lines))]
 fn put_kind_line(out: &mut Vec<u8>, name: &[u8], arguments: &[Variable]) -> Result<(), AllocError>
-    ensures { OnOk result (out.new.items ≡ out.old.items ++ line_text (codes "kind" ∷ name.now ∷ map variable_word arguments.now)) }
+    ensures { OnOk result
+        (out.new.items ≡ out.old.items
+        ++ line_text (codes "kind" ∷ name.now ∷ map variable_word arguments.now)) }
 {
     put_first(out, b"kind")?;
     put_word(out, name)?;
@@ -110,7 +125,9 @@ fn put_locals(out: &mut Vec<u8>, locals: &[Variable]) -> Result<(), AllocError>
 #[tactic(auto, using(crate::proofs::PuttingLines::kinds))]
 fn put_kind(out: &mut Vec<u8>, kinds: &[Kind], kind: &Kind) -> Result<(), AllocError>
     requires { kind.now.arguments ≤ length kind.now.variables }
-    ensures { OnOk result (out.new.items ≡ out.old.items ++ text_of_lines (kind_lines (kind_names kinds.now) kind.now)) }
+    ensures { OnOk result
+        (out.new.items ≡ out.old.items
+        ++ text_of_lines (kind_lines (kind_names kinds.now) kind.now)) }
 {
     let (arguments, locals) = kind
         .variables
@@ -126,7 +143,9 @@ fn put_kind(out: &mut Vec<u8>, kinds: &[Kind], kind: &Kind) -> Result<(), AllocE
 #[tactic(auto, using(crate::proofs::PuttingLines::arguments_here))]
 pub fn put_kinds(out: &mut Vec<u8>, kinds: &[Kind]) -> Result<(), AllocError>
     requires { HaveArguments kinds.now }
-    ensures { OnOk result (out.new.items ≡ out.old.items ++ text_of_lines (flat_map (kind_lines (kind_names kinds.now)) kinds.now)) }
+    ensures { OnOk result
+        (out.new.items ≡ out.old.items
+        ++ text_of_lines (flat_map (kind_lines (kind_names kinds.now)) kinds.now)) }
 {
     for kind in kinds {
         put_kind(out, kinds, kind)?;
@@ -142,7 +161,10 @@ fn put_root(
     roots: &[Root],
     root: &Root,
 ) -> Result<(), AllocError>
-    ensures { OnOk result (out.new.items ≡ out.old.items ++ line_text (line_words (root_line (kind_names kinds.now) (root_names roots.now) root.now))) }
+    ensures { OnOk result
+        (out.new.items ≡ out.old.items
+        ++ line_text (line_words
+        (root_line (kind_names kinds.now) (root_names roots.now) root.now))) }
 {
     put_first(out, b"root")?;
     put_word(out, root.name.as_bytes())?;
@@ -155,7 +177,10 @@ fn put_root(
 
 /// Writes the lines of all roots.
 pub fn put_roots(out: &mut Vec<u8>, kinds: &[Kind], roots: &[Root]) -> Result<(), AllocError>
-    ensures { OnOk result (out.new.items ≡ out.old.items ++ text_of_lines (map (root_line (kind_names kinds.now) (root_names roots.now)) roots.now)) }
+    ensures { OnOk result
+        (out.new.items ≡ out.old.items
+        ++ text_of_lines (map (root_line (kind_names kinds.now) (root_names roots.now))
+        roots.now)) }
 {
     for root in roots {
         put_root(out, kinds, roots, root)?;

@@ -16,7 +16,10 @@ pub fn put_arguments(
     variables: &[Variable],
     arguments: &[Argument],
 ) -> Result<(), AllocError>
-    ensures { OnOk result (out.new.items ≡ out.old.items ++ spaced (map passed_word (map (passed_of (variable_names variables.now)) arguments.now))) }
+    ensures { OnOk result
+        (out.new.items ≡ out.old.items
+        ++ spaced (map passed_word
+        (map (passed_of (variable_names variables.now)) arguments.now))) }
 {
     for argument in arguments {
         put_argument(out, variables, *argument)?;
@@ -30,7 +33,9 @@ pub fn put_root_arguments(
     roots: &[Root],
     arguments: &[RootArgument],
 ) -> Result<(), AllocError>
-    ensures { OnOk result (out.new.items ≡ out.old.items ++ spaced (map root_term_word (map (root_term_of (root_names roots.now)) arguments.now))) }
+    ensures { OnOk result
+        (out.new.items ≡ out.old.items
+        ++ spaced (map root_term_word (map (root_term_of (root_names roots.now)) arguments.now))) }
 {
     for argument in arguments {
         put_root_argument(out, roots, *argument)?;
@@ -40,7 +45,8 @@ pub fn put_root_arguments(
 
 /// Writes variables, from left to right.
 pub fn put_variables(out: &mut Vec<u8>, variables: &[Variable]) -> Result<(), AllocError>
-    ensures { OnOk result (out.new.items ≡ out.old.items ++ spaced (map variable_word variables.now)) }
+    ensures { OnOk result
+        (out.new.items ≡ out.old.items ++ spaced (map variable_word variables.now)) }
 {
     for variable in variables {
         put_variable(out, variable)?;
@@ -54,7 +60,9 @@ pub fn put_futures(
     variables: &[Variable],
     futures: &[u16],
 ) -> Result<(), AllocError>
-    ensures { OnOk result (out.new.items ≡ out.old.items ++ spaced (map future_word (map (name_at (variable_names variables.now)) futures.now))) }
+    ensures { OnOk result
+        (out.new.items ≡ out.old.items
+        ++ spaced (map future_word (map (name_at (variable_names variables.now)) futures.now))) }
 {
     for future in futures {
         put_future(out, variable_name(variables, *future))?;
@@ -70,7 +78,10 @@ pub fn put_list(
     variables: &[Variable],
     futures: &[u16],
 ) -> Result<(), AllocError>
-    ensures { OnOk result (out.new.items ≡ out.old.items ++ spaced (futures_words opening.now (map (name_at (variable_names variables.now)) futures.now))) }
+    ensures { OnOk result
+        (out.new.items ≡ out.old.items
+        ++ spaced (futures_words opening.now
+        (map (name_at (variable_names variables.now)) futures.now))) }
 {
     if futures.is_empty() {
         return Ok(());

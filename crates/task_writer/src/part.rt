@@ -15,7 +15,9 @@ pub fn put_operand(
     variables: &[Variable],
     operand: Operand,
 ) -> Result<(), AllocError>
-    ensures { OnOk result (out.new.items ≡ out.old.items ++ spaced (term_word (term_of (variable_names variables.now) operand) ∷ [])) }
+    ensures { OnOk result
+        (out.new.items ≡ out.old.items
+        ++ spaced (term_word (term_of (variable_names variables.now) operand) ∷ [])) }
 {
     match operand {
         Operand::Literal(number) => put_number(out, number),
@@ -29,7 +31,9 @@ pub fn put_argument(
     variables: &[Variable],
     argument: Argument,
 ) -> Result<(), AllocError>
-    ensures { OnOk result (out.new.items ≡ out.old.items ++ spaced (passed_word (passed_of (variable_names variables.now) argument) ∷ [])) }
+    ensures { OnOk result
+        (out.new.items ≡ out.old.items
+        ++ spaced (passed_word (passed_of (variable_names variables.now) argument) ∷ [])) }
 {
     match argument {
         Argument::Number(operand) => put_operand(out, variables, operand),
@@ -43,7 +47,9 @@ pub fn put_root_argument(
     roots: &[Root],
     argument: RootArgument,
 ) -> Result<(), AllocError>
-    ensures { OnOk result (out.new.items ≡ out.old.items ++ spaced (root_term_word (root_term_of (root_names roots.now) argument) ∷ [])) }
+    ensures { OnOk result
+        (out.new.items ≡ out.old.items
+        ++ spaced (root_term_word (root_term_of (root_names roots.now) argument) ∷ [])) }
 {
     match argument {
         RootArgument::Number(number) => put_number(out, number),
@@ -53,7 +59,8 @@ pub fn put_root_argument(
 
 /// Writes a variable, a future with its `@`.
 pub fn put_variable(out: &mut Vec<u8>, variable: &Variable) -> Result<(), AllocError>
-    ensures { OnOk result (out.new.items ≡ out.old.items ++ spaced (variable_word variable.now ∷ [])) }
+    ensures { OnOk result
+        (out.new.items ≡ out.old.items ++ spaced (variable_word variable.now ∷ [])) }
 {
     match variable.sort {
         Sort::Number => put_word(out, variable.name.as_bytes()),
@@ -68,7 +75,9 @@ pub fn put_behind(
     variables: &[Variable],
     behind: Option<u16>,
 ) -> Result<(), AllocError>
-    ensures { OnOk result (out.new.items ≡ out.old.items ++ spaced (behind_words (option_map (name_at (variable_names variables.now)) behind))) }
+    ensures { OnOk result
+        (out.new.items ≡ out.old.items
+        ++ spaced (behind_words (option_map (name_at (variable_names variables.now)) behind))) }
 {
     match behind {
         Some(at) => put_behind_name(out, variable_name(variables, at)),
@@ -83,7 +92,9 @@ pub fn put_root_behind(
     roots: &[Root],
     behind: Option<u8>,
 ) -> Result<(), AllocError>
-    ensures { OnOk result (out.new.items ≡ out.old.items ++ spaced (behind_words (option_map (name_at (root_names roots.now)) behind))) }
+    ensures { OnOk result
+        (out.new.items ≡ out.old.items
+        ++ spaced (behind_words (option_map (name_at (root_names roots.now)) behind))) }
 {
     match behind {
         Some(at) => put_behind_name(out, root_name(roots, at)),

@@ -34,11 +34,13 @@ fn text_of(alloc: Global, program: &Program) -> Result<Vec<u8>, AllocError>
     Ok(out)
 }
 
-/// The canonical text of a program. Reading it gives the program, with the numbers of the lines of the text.
+/// The canonical text of a program. Reading it gives the program, with the numbers of the lines
+/// of the text.
 pub fn write_program(alloc: Global, program: &Program) -> Result<Vec<u8>, Memory>
     requires { IsWellFormed program.now }
     ensures exact { IfOk result (λ bytes. bytes.items ≡ text_of program.now) }
-    ensures reads_back { IfOk result (λ bytes. program_in bytes.items ≡ Ok (renumbered program.now)) }
+    ensures reads_back { IfOk result
+        (λ bytes. program_in bytes.items ≡ Ok (renumbered program.now)) }
     ensures same { AreSameButLines (renumbered program.now) program.now }
     ensures canonical { IfOk result (λ bytes. IsCanonical bytes.items) }
     ensures again { IfOk result (λ bytes. text_of (renumbered program.now) ≡ bytes.items) }

@@ -1,4 +1,4 @@
-use Rattle.std.proofs.Common.{◌≡◌, ◌+◌, ◌++◌, drop, arith, sym, ap, ◌∙◌}
+use Rattle.std.proofs.Common.{◌≡◌, ◌+◌, ◌++◌, drop, arith, ap, ◌∙◌}
 use Rattle.task_reader.specs.Program.{kinds_from}
 use Rattle.task_reader.specs.Parts.{kind_at}
 use Rattle.task_reader.proofs.WalkLemmas.{short-turn}

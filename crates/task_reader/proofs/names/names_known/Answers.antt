@@ -1,7 +1,6 @@
-use Rattle.std.proofs.Common.{◌≡◌, length, drop, Ok, Err, sym, ◌∙◌, arith}
+use Rattle.std.proofs.Common.{◌≡◌, sym, ◌∙◌, arith}
 use Rattle.std.proofs.lemmas.Result.{err_from_is_err_and}
 use Rattle.task_lines.specs.Scope.{after}
-use Rattle.task_reader.specs.Names.{line_known, known_among}
 use Rattle.task_reader.proofs.WalkLemmas.{short-turn, names-fault, names-next, names-done, steps-after}
 use Rattle.task_reader.proofs.names.names_known.Goals as goal
 

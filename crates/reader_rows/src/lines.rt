@@ -1,7 +1,7 @@
-use crate::{Item, RootTerm, Step, Term, What, items_of};
 use std::alloc::{AllocError, Global};
 use std::process::Abort;
 use std::test::Fail;
+use task_lines::{Item, RootTerm, Step, Term, What, items_of};
 use task_syntax::{MathOp, Name, Priority, Relation};
 use task_text::{Cause, Fault, TextError};
 
@@ -331,12 +331,15 @@ root q j\nroot r k 5 @q behind @q low";
     );
     assert!(rt;
         matches!(items.get(11), Some(Item { line: 14,
-        what: What::Step { step: Step::Spawn { arguments, behind: Some(behind), priority: Priority::Low, retry: true, .. } } })
+        what: What::Step { step: Step::Spawn { arguments, behind: Some(behind),
+        priority: Priority::Low, retry: true, .. } } })
         if arguments.len() == 3 && is_called(behind, b"p"))
     );
     assert!(rt;
-        matches!(items.get(22), Some(Item { line: 25, what: What::Root { arguments, behind: Some(_), priority: Priority::Low, .. } })
-        if matches!(arguments.get(0), Some(RootTerm::Number(5))) && matches!(arguments.get(1), Some(RootTerm::Root(_))))
+        matches!(items.get(22), Some(Item { line: 25,
+        what: What::Root { arguments, behind: Some(_), priority: Priority::Low, .. } })
+        if matches!(arguments.get(0), Some(RootTerm::Number(5)))
+        && matches!(arguments.get(1), Some(RootTerm::Root(_))))
     );
     Ok(())
 }

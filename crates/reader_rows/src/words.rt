@@ -1,11 +1,11 @@
-use crate::{
-    Cause, Fault, Rows, Words, begins_with_digit, count_lines, is_among, is_future, is_missing,
-    is_name, is_no_bad_number, is_number, is_operand, is_text, number_of,
-};
 use std::alloc::{AllocError, Global};
 use std::process::Abort;
 use std::test::Fail;
 use task_syntax::Name;
+use task_text::{
+    Cause, Fault, Rows, Words, begins_with_digit, count_lines, is_among, is_future, is_missing,
+    is_name, is_no_bad_number, is_number, is_operand, is_text, number_of,
+};
 
 #[test]
 fn names_are_told_from_other_words(rt: HostRuntime) {

@@ -1,0 +1,328 @@
+-- The first fault of the rows of a text is what the reading gives.
+use Rattle.std.proofs.Common.{◌≡◌, ◌≢◌, ◌<◌, ℕ, zero, suc, ◌+◌, Bool, true, false, cond, Option, Some, None, List, [], ◌∷◌, ◌++◌, length, Result, Ok, Err, refl, sym, ◌∙◌, ap, subst, ◌⊎◌, inl, inr, arith}
+use Rattle.std.specs.Prelude.{codes}
+use Rattle.task_syntax.proofs.Differ.{differ-nil}
+use Rattle.task_syntax.specs.Names.{same_bytes}
+use Rattle.task_syntax.specs.declared.instr.MathOp.{MathOp}
+use Rattle.task_syntax.specs.declared.instr.MathOp.TheVariants as op
+use Rattle.task_text.specs.declared.fault.Cause.{Cause}
+use Rattle.task_text.specs.declared.fault.Cause.TheVariants.{NotText, NoEnd, UnknownWord}
+use Rattle.task_text.specs.declared.fault.Fault.{Fault}
+use Rattle.task_text.specs.Fault.{fault_at, ◌>>=◌}
+use Rattle.task_text.specs.Text.{Word, Row, lines_of, without_mark, rows_of}
+use Rattle.task_text.specs.Scan.{start_of, is_text, check_text, whole}
+use Rattle.task_text.proofs.Answering.{same-bytes, whole-answers}
+use Rattle.task_text.proofs.Whole.{ArePresent, RowsPresent, rows-present, read-whole, whole-words}
+use Rattle.task_lines.specs.declared.step.Step.{Step}
+use Rattle.task_lines.specs.declared.step.Step.TheVariants.{Set, Math, If, Goto, Label, Cell, Rows, Spawn, All, Copy, Drop, Get, Again, Done}
+use Rattle.task_lines.specs.declared.item.What.{What}
+use Rattle.task_lines.specs.declared.item.What.TheVariants as what
+use Rattle.task_lines.specs.declared.item.Item.{Item}
+use Rattle.task_lines.specs.declared.scope.Place.{Place}
+use Rattle.task_lines.specs.declared.scope.Place.TheVariants.{Outside, Head, Code, Jumped, Ended}
+use Rattle.task_lines.specs.declared.scope.Scope.{Scope}
+use Rattle.task_lines.specs.Scope.{first_scope, after}
+use Rattle.task_lines.specs.Keyword.{opening}
+use Rattle.task_lines.specs.Line.{header_line}
+use Rattle.task_lines.specs.Steps.{read_line}
+use Rattle.task_lines.specs.Reading.{is_open_state, is_cut_short, line_of, items_from, rows_behind_header, items_of}
+use Rattle.task_lines.specs.Grammar.{operation_word, Spells, SpellsStep, MayBegin, MayStand}
+use Rattle.task_lines.proofs.AcceptedText.{text-checked, spelled-text}
+use Rattle.task_lines.proofs.AcceptedLines.{line-answers}
+use Rattle.task_lines.proofs.SpelledParts.{AreNew}
+use Rattle.task_lines.proofs.Spelled.{line-taken}
+use Rattle.task_reader.specs.Asked.{Asked, cause_of, header_asked, opened_by, line_asked}
+use Rattle.task_reader.specs.Faults.{word_at, IsRefusedAt, AreAsAsked, IsNoTextAt, AreText, RowFault, EndsTooSoon, LeadTo, LineFault, no_row, in_header, in_row, too_soon, left_open}
+use Rattle.task_reader.proofs.AskedWords.{verdict, RowAgrees, whole-agrees}
+use Rattle.task_reader.proofs.AskedLines.{line-agrees, header-agrees}
+use Rattle.task_reader.proofs.AskedPlaces.{TextAnswer, refused-found, none-refused, text-answers}
+use Rattle.task_reader.proofs.FirstFaults.{new-after}
+
+-- ---- single rows
+
+pub same-fault : (f g : Fault) → f.cause ≡ g.cause → f.line ≡ g.line → f.word ≡ g.word → f ≡ g
+same-fault f g a b c =
+    ap (λ cause. fault_at cause f.line f.word) a ∙ (ap (λ line. fault_at g.cause line f.word) b ∙ ap (λ word. fault_at g.cause g.line word) c)
+
+not-both : (b : Bool) → b ≡ true → b ≡ false → ⊥
+not-both b t f = let c : true ≡ false = sym t ∙ f in cc
+
+-- the first place where a word is no text is one
+same-place : (words : List Word) (one other : ℕ) → IsNoTextAt words one → IsNoTextAt words other → one ≡ other
+same-place words one other a b = by (λ l. not-both (is_text a.word) (b.none_before one a.word l a.stands) a.here) (λ l. not-both (is_text b.word) (a.none_before other b.word l b.stands) b.here) where
+  by : (one < other → ⊥) → (other < one → ⊥) → one ≡ other
+  by n m = at-same one other n m where
+    at-same : (one other : ℕ) → (one < other → ⊥) → (other < one → ⊥) → one ≡ other
+    at-same zero zero n m = refl
+    at-same zero (suc other) n m = absurd (n (omega arith))
+    at-same (suc one) zero n m = absurd (m (omega arith))
+    at-same (suc one) (suc other) n m = ap suc (at-same one other (λ l. n (omega (arith, l))) (λ l. m (omega (arith, l))))
+
+-- bytes that are no text are what the test of a row finds
+text-told : (row : Row) (fault : Fault) (place : ℕ) → fault.line ≡ row.line → fault.word ≡ place + 1 → fault.cause ≡ NotText → IsNoTextAt row.words place → check_text row ≡ Err fault
+text-told row fault place line word cause h = by (check_text row) refl (text-answers row.line 1 row.words) where
+  by : (o : Result (Unit {0}) Fault) → check_text row ≡ o → TextAnswer row.line 1 row.words o → o ≡ Err fault
+  by (Ok u) is text = absurd (not-both (is_text h.word) (text place h.word h.stands) h.here)
+  by (Err f) is a =
+      let p = same-place row.words a.1 place a.4 h in
+      ap (λ (f : Fault). Err f) (same-fault f fault (a.3 ∙ sym cause) (a.0 ∙ sym line) (omega (arith, a.2, p, word)))
+
+-- a row whose words are text passes the test
+text-clear : (row : Row) → AreText row.words → check_text row ≡ Ok tt
+text-clear row text = by (check_text row) (text-answers row.line 1 row.words) where
+  by : (o : Result (Unit {0}) Fault) → TextAnswer row.line 1 row.words o → o ≡ Ok tt
+  by (Ok u) a = refl
+  by (Err f) a = absurd (not-both (is_text a.4.word) (text a.1 a.4.word a.4.stands) a.4.here)
+
+pair-is : (c d : Cause) (m n : ℕ) → ◌≡◌ {A = Option (Cause × ℕ)} (Some (c, m)) (Some (d, n)) → ◌≡◌ {A = Cause × ℕ} (c, m) (d, n)
+pair-is c d m n e = ap (λ (o : Option (Cause × ℕ)). elim o [ None ↦ (c, m) | Some p ↦ p ]) e
+
+-- a word that may not stand is what the reading of a row finds
+word-told : {A : Type 0} (o : Result A Fault) (asked : Asked) (row : Row) (fault : Fault) (place : ℕ) → RowAgrees o row asked
+    → fault.line ≡ row.line → fault.word ≡ place + 1 → IsRefusedAt asked row.words place fault.cause → o ≡ Err fault
+word-told (Ok a) asked row fault place agrees line word h =
+    let c : ◌≡◌ {A = Option (Cause × ℕ)} None (Some (fault.cause, 1 + place)) = sym agrees ∙ refused-found asked 1 row.words place fault.cause h in cc
+word-told (Err f) asked row fault place agrees line word h =
+    let p = pair-is f.cause fault.cause f.word (1 + place) (sym agrees.1 ∙ refused-found asked 1 row.words place fault.cause h) in
+    ap (λ (f : Fault). Err f) (same-fault f fault (ap (λ (p : Cause × ℕ). p.0) p) (agrees.0 ∙ sym line) (ap (λ (p : Cause × ℕ). p.1) p ∙ omega (arith, word)))
+
+-- what is read of a row each word of which may stand
+word-clear : {A : Type 0} (o : Result A Fault) (asked : Asked) (row : Row) → RowAgrees o row asked → AreAsAsked asked row.words → (a : A) × (o ≡ Ok a)
+word-clear (Ok a) asked row agrees all = (a, refl)
+word-clear (Err f) asked row agrees all =
+    let c : ◌≡◌ {A = Option (Cause × ℕ)} None (Some (f.cause, f.word)) = sym (none-refused asked 1 row.words all) ∙ agrees.1 in cc
+
+-- ---- lines
+
+stops : {A B : Type 0} (o : Result A Fault) (f : A → Result B Fault) (fault : Fault) → o ≡ Err fault → o >>= f ≡ Err fault
+stops o f fault e = ap (λ (p : Result _ Fault). p >>= f) e
+
+goes-on : {A B : Type 0} (o : Result A Fault) (f : A → Result B Fault) (a : A) (r : Result B Fault) → o ≡ Ok a → f a ≡ r → o >>= f ≡ r
+goes-on o f a r e g = ap (λ (p : Result _ Fault). p >>= f) e ∙ g
+
+-- the fault of a row is that of its line
+pub row-told : (scope : Scope) (row : Row) (fault : Fault) → ArePresent row.words → RowFault (line_asked scope) row fault → line_of scope row ≡ Err fault
+unfolding line_of
+row-told scope row fault present (line, place, word, inl h) = stops (check_text row) _ fault (text-told row fault place line word h.0 h.1)
+row-told scope row fault present (line, place, word, inr h) =
+    goes-on (check_text row) _ tt (Err fault) (text-clear row h.0)
+    (stops (whole (read_line scope) row) _ fault
+    (word-told (whole (read_line scope) row) (line_asked scope) row fault place (whole-agrees (read_line scope) row (line_asked scope) present (line-agrees scope (start_of row))) line word h.1))
+
+-- a line that begins with `state` or with `end`
+abbrev pub IsState : What → Type 0
+IsState (what.State name holds settled) = Unit {0}
+IsState _ = ⊥
+
+abbrev pub IsEnd : What → Type 0
+IsEnd what.End = Unit {0}
+IsEnd _ = ⊥
+
+first-is : (words : List Word) (word other : Word) (rest : List Word) → word_at words 0 ≡ word → words ≡ other ∷ rest → other ≡ word
+first-is words word other rest e is = ap (λ ws. word_at ws 0) (sym is) ∙ e
+
+-- words whose bytes differ
+apart : (one other : Word) → same_bytes one other ≡ false → one ≡ other → ⊥
+apart one other n e = not-both (same_bytes one one) (same-bytes one) (ap (λ word. same_bytes one word) e ∙ n)
+
+no-operation : (operation : MathOp) (word : Word) → operation_word operation ≡ word → (word ≡ codes "state") ⊎ (word ≡ codes "end") → ⊥
+no-operation op.Add word e (inl s) = apart (codes "add") (codes "state") refl (e ∙ s)
+no-operation op.Sub word e (inl s) = apart (codes "sub") (codes "state") refl (e ∙ s)
+no-operation op.Mul word e (inl s) = apart (codes "mul") (codes "state") refl (e ∙ s)
+no-operation op.Div word e (inl s) = apart (codes "div") (codes "state") refl (e ∙ s)
+no-operation op.Rem word e (inl s) = apart (codes "rem") (codes "state") refl (e ∙ s)
+no-operation op.Add word e (inr s) = apart (codes "add") (codes "end") refl (e ∙ s)
+no-operation op.Sub word e (inr s) = apart (codes "sub") (codes "end") refl (e ∙ s)
+no-operation op.Mul word e (inr s) = apart (codes "mul") (codes "end") refl (e ∙ s)
+no-operation op.Div word e (inr s) = apart (codes "div") (codes "end") refl (e ∙ s)
+no-operation op.Rem word e (inr s) = apart (codes "rem") (codes "end") refl (e ∙ s)
+
+-- no instruction begins with these words
+abbrev BeginsNoStep : Word → Type 0
+BeginsNoStep word = (word ≡ codes "state") ⊎ (word ≡ codes "end")
+
+differs : (one two : Word) → same_bytes one (codes "state") ≡ false → same_bytes one (codes "end") ≡ false → one ≡ two → BeginsNoStep two → ⊥
+differs one two a b e (inl s) = apart one (codes "state") a (e ∙ s)
+differs one two a b e (inr s) = apart one (codes "end") b (e ∙ s)
+
+no-step : (words : List Word) (step : Step) → SpellsStep words step → BeginsNoStep (word_at words 0) → ⊥
+no-step words (Set to value) s b = differs (codes "set") _ refl refl (first-is words _ _ _ refl s.1) b
+no-step words (Math operation to left right) s b = no-operation operation _ (first-is words _ _ _ refl s.2) b
+no-step words (If relation left right target) s b = differs (codes "if") _ refl refl (first-is words _ _ _ refl s.2) b
+no-step words (Goto target) s b = differs (codes "goto") _ refl refl (first-is words _ _ _ refl s.0) b
+no-step words (Label name) s b = differs (codes "label") _ refl refl (first-is words _ _ _ refl s.0) b
+no-step words (Cell to column row) s b = differs (codes "cell") _ refl refl (first-is words _ _ _ refl s.1) b
+no-step words (Rows to column) s b = differs (codes "rows") _ refl refl (first-is words _ _ _ refl s.0) b
+no-step words (Spawn to kind arguments behind priority retry) s b = differs (codes "spawn") _ refl refl (first-is words _ _ _ refl s.3) b
+no-step words (All to members priority retry) s b = differs (codes "all") _ refl refl (first-is words _ _ _ refl s.2) b
+no-step words (Copy to source) s b = differs (codes "copy") _ refl refl (first-is words _ _ _ refl s.0) b
+no-step words (Drop future) s b = differs (codes "drop") _ refl refl (first-is words _ _ _ refl s.0) b
+no-step words (Get to future) s b = differs (codes "get") _ refl refl (first-is words _ _ _ refl s.0) b
+no-step words (Again target behind priority) s b = differs (codes "again") _ refl refl (first-is words _ _ _ refl s.2) b
+no-step words (Done value) s b = differs (codes "done") _ refl refl (first-is words _ _ _ refl s.1) b
+
+begins-state : (words : List Word) (w : What) → Spells words w → word_at words 0 ≡ codes "state" → IsState w
+begins-state words (what.State name holds settled) s e = tt
+begins-state words (what.Step step) s e = absurd (no-step words step s (inl e))
+begins-state words (what.Kind name arguments) s e = absurd (apart (codes "kind") (codes "state") refl (first-is words (codes "state") (codes "kind") _ e s.1))
+begins-state words (what.Var variables) s e = absurd (apart (codes "var") (codes "state") refl (first-is words (codes "state") (codes "var") _ e s.1))
+begins-state words what.End s e = absurd (apart (codes "end") (codes "state") refl (first-is words (codes "state") (codes "end") _ e s))
+begins-state words (what.Root name kind arguments behind priority) s e = absurd (apart (codes "root") (codes "state") refl (first-is words (codes "state") (codes "root") _ e s.3))
+
+begins-end : (words : List Word) (w : What) → Spells words w → word_at words 0 ≡ codes "end" → IsEnd w
+begins-end words what.End s e = tt
+begins-end words (what.Step step) s e = absurd (no-step words step s (inr e))
+begins-end words (what.Kind name arguments) s e = absurd (apart (codes "kind") (codes "end") refl (first-is words (codes "end") (codes "kind") _ e s.1))
+begins-end words (what.Var variables) s e = absurd (apart (codes "var") (codes "end") refl (first-is words (codes "end") (codes "var") _ e s.1))
+begins-end words (what.State name holds settled) s e = absurd (apart (codes "state") (codes "end") refl (first-is words (codes "end") (codes "state") _ e s.2))
+begins-end words (what.Root name kind arguments behind priority) s e = absurd (apart (codes "root") (codes "end") refl (first-is words (codes "end") (codes "root") _ e s.3))
+
+-- no state or end is read outside of kinds
+cut-state : (place : Place) (w : What) → IsState w → place ≢ Outside → place ≢ Head → place ≢ Ended → is_cut_short place w ≡ true
+cut-state Outside (what.State name holds settled) s o h e = absurd (o refl)
+cut-state Head (what.State name holds settled) s o h e = absurd (h refl)
+cut-state Ended (what.State name holds settled) s o h e = absurd (e refl)
+cut-state Code (what.State name holds settled) s o h e = refl
+cut-state Jumped (what.State name holds settled) s o h e = refl
+cut-state place w s o h e = absurd s
+
+pub cut-end : (place : Place) (w : What) → IsEnd w → place ≢ Outside → place ≢ Ended → is_cut_short place w ≡ true
+cut-end Outside what.End s o e = absurd (o refl)
+cut-end Head what.End s o e = refl
+cut-end Ended what.End s o e = absurd (e refl)
+cut-end Code what.End s o e = refl
+cut-end Jumped what.End s o e = refl
+cut-end place w s o e = absurd s
+
+outside-unlike : (scope : Scope) (words : List Word) (word : Word) → word_at words 0 ≡ word → cause_of (opened_by scope (opening Outside word)) word ≡ Some UnknownWord → scope.place ≡ Outside
+    → AreAsAsked (line_asked scope) words → ⊥
+outside-unlike scope words word first unknown outside all =
+    let here : cause_of (opened_by scope (opening scope.place (word_at words 0))) (word_at words 0) ≡ None = all 0 (omega arith) in
+    let there : cause_of (opened_by scope (opening scope.place (word_at words 0))) (word_at words 0) ≡ Some UnknownWord =
+    ap (λ w. cause_of (opened_by scope (opening scope.place w)) w) first ∙ (ap (λ p. cause_of (opened_by scope (opening p word)) word) outside ∙ unknown) in
+    let c : ◌≡◌ {A = Option Cause} None (Some UnknownWord) = sym here ∙ there in cc
+
+ends-cut : (scope : Scope) (words : List Word) (w : What) → Spells words w → AreAsAsked (line_asked scope) words → EndsTooSoon scope.place (word_at words 0) → is_cut_short scope.place w ≡ true
+ends-cut scope words w spelled all (inl h) = cut-state scope.place w (begins-state words w spelled h.0) (λ o. outside-unlike scope words (codes "state") h.0 refl o all) h.1 h.2
+ends-cut scope words w spelled all (inr h) = cut-end scope.place w (begins-end words w spelled h.0) (λ o. outside-unlike scope words (codes "end") h.0 refl o all) h.1
+
+-- a line that ends a state or a kind too soon is at fault
+soon-told : (scope : Scope) → AreNew 255 scope.variables → (row : Row) → ArePresent row.words → AreText row.words → AreAsAsked (line_asked scope) row.words
+    → EndsTooSoon scope.place (word_at row.words 0) → line_of scope row ≡ Err (fault_at NoEnd row.line 0)
+unfolding line_of
+soon-told scope new row present text all soon =
+    let got = word-clear (whole (read_line scope) row) (line_asked scope) row (whole-agrees (read_line scope) row (line_asked scope) present (line-agrees scope (start_of row))) all in
+    let r = read-whole (read_line scope) row got.0 got.1 in
+    let t = line-taken scope new (start_of row) (got.0, r.end) r.reads in
+    let words = whole-words row t.words r.end present t.left r.missing in
+    let cut = ends-cut scope row.words got.0 (subst (λ ws. Spells ws got.0) (sym words) t.spells) all soon in
+    goes-on (check_text row) _ tt (Err (fault_at NoEnd row.line 0)) (text-clear row text)
+    (goes-on (whole (read_line scope) row) _ got.0 (Err (fault_at NoEnd row.line 0)) got.1
+    (ap (λ (b : Bool). cond {A = Result What Fault} b (Err (fault_at NoEnd row.line 0)) (Ok got.0)) cut))
+
+no-unclosed : (place : Place) → MayBegin place → is_open_state place ≡ false
+no-unclosed Head h = refl
+no-unclosed Ended h = refl
+no-unclosed place h = absurd h
+
+not-cut : (scope : Scope) (w : What) → MayStand scope w → is_cut_short scope.place w ≡ false
+not-cut scope (what.State name holds settled) may = no-unclosed scope.place may.0
+not-cut scope what.End may = ap (λ p. is_cut_short p what.End) may
+not-cut scope w may = refl
+
+line-accepted : (scope : Scope) (row : Row) (w : What) → Spells row.words w → MayStand scope w → line_of scope row ≡ Ok w
+unfolding line_of
+line-accepted scope row w spells may =
+    goes-on (check_text row) _ tt (Ok w) (text-checked row.words (spelled-text row.words w spells) row.line 1)
+    (goes-on (whole (read_line scope) row) _ w (Ok w) (whole-answers (read_line scope) row w (line-answers scope row.words w spells may (start_of row) refl))
+    (ap (λ (b : Bool). cond {A = Result What Fault} b (Err (fault_at NoEnd row.line 0)) (Ok w)) (not-cut scope w may)))
+
+-- ---- rows
+
+-- the scope behind lines that may stand still has different variables
+new-behind : (rows : List Row) (scope end : Scope) → AreNew 255 scope.variables → LeadTo scope rows end → AreNew 255 end.variables
+new-behind [] scope end new h = subst (λ (s : Scope). AreNew 255 s.variables) h new
+new-behind (row ∷ rows) scope end new h = new-behind rows (after scope h.0) end (new-after scope h.0 h.2 new) h.3
+
+present-at : (before others : List Row) (row : Row) → RowsPresent (before ++ row ∷ others) → ArePresent row.words
+present-at [] others row h = h.0
+present-at (first ∷ before) others row h = present-at before others row h.1
+
+-- behind lines that may stand, a line at fault is the fault of the rows
+rows-told : (last : ℕ) (before others : List Row) (scope end : Scope) (row : Row) (fault : Fault) → LeadTo scope before end → line_of end row ≡ Err fault
+    → items_from last scope (before ++ row ∷ others) ≡ Err fault
+unfolding items_from
+rows-told last [] others scope end row fault lines e = stops (line_of scope row) _ fault (subst (λ (s : Scope). line_of s row ≡ Err fault) (sym lines) e)
+rows-told last (first ∷ before) others scope end row fault lines e =
+    goes-on (line_of scope first) _ lines.0 (Err fault) (line-accepted scope first lines.0 lines.1 lines.2)
+    (stops (items_from last (after scope lines.0) (before ++ row ∷ others)) _ fault (rows-told last before others (after scope lines.0) end row fault lines.3 e))
+
+end-told : (last : ℕ) (place : Place) → place ≢ Outside → ◌≡◌ {A = Result (List Item) Fault} (elim place [ Outside ↦ Ok [] | _ ↦ Err (fault_at NoEnd last 0) ]) (Err (fault_at NoEnd last 0))
+end-told last Outside n = absurd (n refl)
+end-told last place n = refl
+
+rows-unclosed : (last : ℕ) (rows : List Row) (scope end : Scope) → LeadTo scope rows end → end.place ≢ Outside → items_from last scope rows ≡ Err (fault_at NoEnd last 0)
+unfolding items_from
+rows-unclosed last [] scope end lines n = end-told last scope.place (subst (λ (s : Scope). s.place ≢ Outside) (sym lines) n)
+rows-unclosed last (row ∷ rows) scope end lines n =
+    goes-on (line_of scope row) _ lines.0 (Err (fault_at NoEnd last 0)) (line-accepted scope row lines.0 lines.1 lines.2)
+    (stops (items_from last (after scope lines.0) rows) _ (fault_at NoEnd last 0) (rows-unclosed last rows (after scope lines.0) end lines.3 n))
+
+-- ---- the text
+
+text-of : (text : List ℕ) (rows : List Row) (r : Result (List Item) Fault) → rows_of text ≡ rows
+    → (rows_behind_header rows >>= (λ (behind : List Row). items_from (length (lines_of (without_mark text))) first_scope behind)) ≡ r → items_of text ≡ r
+unfolding items_of
+text-of text rows r is e = ap (λ rows. rows_behind_header rows >>= (λ (behind : List Row). items_from (length (lines_of (without_mark text))) first_scope behind)) is ∙ e
+
+-- a row that spells the header is read as one
+header-read : (header : Row) → header.words ≡ codes "ktask" ∷ codes "1" ∷ [] → whole header_line header ≡ Ok tt
+header-read header words = by (whole header_line header) (whole-agrees header_line header header_asked present (header-agrees (start_of header))) where
+  present : ArePresent header.words
+  present = subst ArePresent (sym words) (refl, (refl, tt))
+
+  by : (o : Result (Unit {0}) Fault) → RowAgrees o header header_asked → o ≡ Ok tt
+  by (Ok u) a = refl
+  by (Err f) a = let c : ◌≡◌ {A = Option (Cause × ℕ)} None (Some (f.cause, f.word)) = sym (ap (λ ws. verdict header_asked 1 ws) words) ∙ a.1 in cc
+
+header-accepted : (header : Row) (rows : List Row) → header.words ≡ codes "ktask" ∷ codes "1" ∷ [] → rows_behind_header (header ∷ rows) ≡ Ok rows
+unfolding rows_behind_header
+header-accepted header rows words =
+    goes-on (check_text header) _ tt (Ok rows) (subst (λ ws. check_text (record { line = header.line; words = ws }) ≡ Ok tt) (sym words) (text-checked (codes "ktask" ∷ codes "1" ∷ []) (refl, (refl, tt)) header.line 1))
+    (goes-on (whole header_line header) _ tt (Ok rows) (header-read header words) refl)
+
+header-told : (header : Row) (rows : List Row) (fault : Fault) → ArePresent header.words → RowFault header_asked header fault → rows_behind_header (header ∷ rows) ≡ Err fault
+unfolding rows_behind_header
+header-told header rows fault present (line, place, word, inl h) = stops (check_text header) _ fault (text-told header fault place line word h.0 h.1)
+header-told header rows fault present (line, place, word, inr h) =
+    goes-on (check_text header) _ tt (Err fault) (text-clear header h.0)
+    (stops (whole header_line header) _ fault
+    (word-told (whole header_line header) header_asked header fault place (whole-agrees header_line header header_asked present (header-agrees (start_of header))) line word h.1))
+
+behind-header : (text : List ℕ) (header : Row) (rows : List Row) (fault : Fault) → rows_of text ≡ header ∷ rows → header.words ≡ codes "ktask" ∷ codes "1" ∷ []
+    → items_from (length (lines_of (without_mark text))) first_scope rows ≡ Err fault → items_of text ≡ Err fault
+behind-header text header rows fault is words e = text-of text (header ∷ rows) (Err fault) is
+    (goes-on (rows_behind_header (header ∷ rows)) _ rows (Err fault) (header-accepted header rows words) e)
+
+rows-are : (text : List ℕ) (rows : List Row) → rows_of text ≡ rows → RowsPresent rows
+rows-are text rows is = subst RowsPresent is (rows-present (lines_of (without_mark text)) 1)
+
+-- the first fault of the lines of a text is what the reading gives
+pub lines-told : (text : List ℕ) (fault : Fault) → LineFault text fault → items_of text ≡ Err fault
+unfolding rows_behind_header
+lines-told text fault (no_row is e) = text-of text [] (Err fault) is (ap (λ (f : Fault). Err f) (sym e))
+lines-told text fault (in_header header rows is h) = text-of text (header ∷ rows) (Err fault) is
+    (stops (rows_behind_header (header ∷ rows)) _ fault (header-told header rows fault (rows-are text (header ∷ rows) is).0 h))
+lines-told text fault (in_row scope row stands h) =
+    let present = present-at (stands.header ∷ stands.before) stands.others row (rows-are text (stands.header ∷ (stands.before ++ row ∷ stands.others)) stands.parts) in
+    behind-header text stands.header (stands.before ++ row ∷ stands.others) fault stands.parts stands.header_is
+    (rows-told (length (lines_of (without_mark text))) stands.before stands.others first_scope scope row fault stands.lines (row-told scope row fault present h))
+lines-told text fault (too_soon scope row stands e clear all soon) =
+    let present = present-at (stands.header ∷ stands.before) stands.others row (rows-are text (stands.header ∷ (stands.before ++ row ∷ stands.others)) stands.parts) in
+    let new = new-behind stands.before first_scope scope (differ-nil, omega arith) stands.lines in
+    behind-header text stands.header (stands.before ++ row ∷ stands.others) fault stands.parts stands.header_is
+    (rows-told (length (lines_of (without_mark text))) stands.before stands.others first_scope scope row fault stands.lines
+    (soon-told scope new row present clear all soon ∙ ap (λ (f : Fault). Err f) (sym e)))
+lines-told text fault (left_open header rows scope is words lines n e) =
+    behind-header text header rows fault is words
+    (rows-unclosed (length (lines_of (without_mark text))) rows first_scope scope lines n ∙ ap (λ (f : Fault). Err f) (sym e))

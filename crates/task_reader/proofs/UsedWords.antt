@@ -1,0 +1,127 @@
+-- The words that spell a line spell the names that it uses, each at its place.
+use Rattle.std.proofs.Common.{◌≡◌, ℕ, zero, suc, Option, Some, None, List, [], ◌∷◌, ◌++◌, map, slice_get, refl, sym, ap, subst}
+use Rattle.std.specs.Prelude.{codes}
+use Rattle.task_text.specs.Text.{Word}
+use Rattle.task_lines.specs.declared.step.Term.{Term}
+use Rattle.task_lines.specs.declared.step.Term.TheVariants as term
+use Rattle.task_lines.specs.declared.step.Passed.{Passed}
+use Rattle.task_lines.specs.declared.step.Passed.TheVariants as passed
+use Rattle.task_lines.specs.declared.step.Step.{Step}
+use Rattle.task_lines.specs.declared.step.Step.TheVariants.{Set, Math, If, Goto, Label, Cell, Rows, Spawn, All, Copy, Drop, Get, Again, Done}
+use Rattle.task_lines.specs.declared.item.RootTerm.{RootTerm}
+use Rattle.task_lines.specs.declared.item.RootTerm.TheVariants as root_term
+use Rattle.task_lines.specs.declared.item.What.{What}
+use Rattle.task_lines.specs.declared.item.What.TheVariants as what
+use Rattle.task_lines.specs.Grammar.{SpellsTerm, SpellsPassed, SpellsRootTerm, SpellsFuture, EachSpells, SpellsFutures, SpellsBehind, SpellsStep, Spells}
+use Rattle.task_reader.specs.Uses.{Use, UsesFuture, UsesRoot, SpellsUse, term_use, passed_use, root_term_use, behind_uses, futures_uses, step_uses, line_uses}
+
+-- the words begin with one for each use, which spells it
+abbrev Covers : List Word → List Use → Type 0
+Covers words [] = Unit {0}
+Covers [] (first ∷ uses) = ⊥
+Covers (word ∷ words) (first ∷ uses) = SpellsUse word first × Covers words uses
+
+-- the word that spells a use
+pub record SpelledAt (words : List Word) (place : ℕ) (used : Use) : Type 0 where
+  pub word : Word
+  pub stands : slice_get words place ≡ Some word
+  pub spells : SpellsUse word used
+
+same-use : (one other : Use) → Some one ≡ Some other → one ≡ other
+same-use one other e = cc
+
+covers-at : (words : List Word) (uses : List Use) → Covers words uses → (place : ℕ) (used : Use) → slice_get uses place ≡ Some used → SpelledAt words place used
+covers-at words [] c place used e = cc
+covers-at [] (first ∷ uses) c place used e = absurd c
+covers-at (word ∷ words) (first ∷ uses) c zero used e = record { word = word; stands = refl; spells = subst (SpellsUse word) (same-use first used e) c.0 }
+covers-at (word ∷ words) (first ∷ uses) c (suc place) used e = let r = covers-at words uses c.1 place used e in
+    record { word = r.word; stands = r.stands; spells = r.spells }
+
+-- ---- parts
+
+term-spelled : (word : Word) (t : Term) → SpellsTerm word t → SpellsUse word (term_use t)
+term-spelled word (term.Literal n) s = tt
+term-spelled word (term.Variable name) s = s.0
+
+passed-spelled : (word : Word) (a : Passed) → SpellsPassed word a → SpellsUse word (passed_use a)
+passed-spelled word (passed.Number t) s = term-spelled word t s
+passed-spelled word (passed.Future name) s = s.0
+
+root-term-spelled : (word : Word) (t : RootTerm) → SpellsRootTerm word t → SpellsUse word (root_term_use t)
+root-term-spelled word (root_term.Number n) s = tt
+root-term-spelled word (root_term.Root name) s = s.0
+
+future-spelled : (word : Word) (name : List ℕ) → SpellsFuture word name → SpellsUse word (UsesFuture name)
+future-spelled word name s = s.0
+
+each-covered : {A : Type 0} (R : Word → A → Type 0) (use_of : A → Use) → ((word : Word) (a : A) → R word a → SpellsUse word (use_of a))
+    → (words : List Word) (items : List A) (more : List Word) (rest : List Use) → EachSpells R words items → Covers more rest → Covers (words ++ more) (map use_of items ++ rest)
+each-covered R use_of spelled [] [] more rest s c = c
+each-covered R use_of spelled [] (a ∷ items) more rest s c = absurd s
+each-covered R use_of spelled (word ∷ words) [] more rest s c = absurd s
+each-covered R use_of spelled (word ∷ words) (a ∷ items) more rest s c = (spelled word a s.0, each-covered R use_of spelled words items more rest s.1 c)
+
+list-covered : {A : Type 0} (R : Word → A → Type 0) (use_of : A → Use) → ((word : Word) (a : A) → R word a → SpellsUse word (use_of a))
+    → (words : List Word) (items : List A) (more : List Word) → EachSpells R words items → Covers (words ++ more) (map use_of items)
+list-covered R use_of spelled [] [] more s = tt
+list-covered R use_of spelled [] (a ∷ items) more s = absurd s
+list-covered R use_of spelled (word ∷ words) [] more s = absurd s
+list-covered R use_of spelled (word ∷ words) (a ∷ items) more s = (spelled word a s.0, list-covered R use_of spelled words items more s.1)
+
+behind-covered : (use_of : List ℕ → Use) → ((name : List ℕ) → SpellsUse (64 ∷ name) (use_of name)) → (words more : List Word) (behind : Option (List ℕ)) → SpellsBehind words behind
+    → Covers (words ++ more) (behind_uses use_of behind)
+behind-covered use_of spelled words more None s = tt
+behind-covered use_of spelled words more (Some name) s = subst (λ ws. Covers (ws ++ more) (behind_uses use_of (Some name))) (sym s.0) (tt, (spelled name, tt))
+
+futures-covered : (opening : Word) (words more : List Word) (names : List (List ℕ)) (rest : List Use) → SpellsFutures opening words names → Covers more rest
+    → Covers (words ++ more) (futures_uses names ++ rest)
+futures-covered opening words more [] rest s c = subst (λ ws. Covers (ws ++ more) rest) (sym s) c
+futures-covered opening words more (name ∷ names) rest s c =
+    subst (λ ws. Covers (ws ++ more) (futures_uses (name ∷ names) ++ rest)) (sym s.1) (tt, each-covered SpellsFuture UsesFuture future-spelled s.0 (name ∷ names) more rest s.2 c)
+
+last-covered : (opening : Word) (words : List Word) (names : List (List ℕ)) → SpellsFutures opening words names → Covers words (futures_uses names)
+last-covered opening words [] s = tt
+last-covered opening words (name ∷ names) s = subst (λ ws. Covers ws (futures_uses (name ∷ names))) (sym s.1) (tt, whole s.0 (list-covered SpellsFuture UsesFuture future-spelled s.0 (name ∷ names) [] s.2)) where
+  whole : (ws : List Word) → Covers (ws ++ []) (map UsesFuture (name ∷ names)) → Covers ws (map UsesFuture (name ∷ names))
+  whole ws c = subst (λ ws. Covers ws (map UsesFuture (name ∷ names))) (nothing-more ws) c where
+    nothing-more : (xs : List Word) → xs ++ [] ≡ xs
+    nothing-more [] = refl
+    nothing-more (x ∷ xs) = ap (λ more. x ∷ more) (nothing-more xs)
+
+-- ---- lines
+
+step-covered : (words : List Word) (step : Step) → SpellsStep words step → Covers words (step_uses step)
+step-covered words (Set to value) s = subst (λ ws. Covers ws (step_uses (Set to value))) (sym s.1) (tt, (refl, (term-spelled s.0 value s.3, tt)))
+step-covered words (Math operation to left right) s =
+    subst (λ ws. Covers ws (step_uses (Math operation to left right))) (sym s.2) (tt, (refl, (term-spelled s.0 left s.4, (term-spelled s.1 right s.5, tt))))
+step-covered words (If relation left right target) s =
+    subst (λ ws. Covers ws (step_uses (If relation left right target))) (sym s.2) (tt, (term-spelled s.0 left s.3, (tt, (term-spelled s.1 right s.4, (tt, (refl, tt))))))
+step-covered words (Goto target) s = subst (λ ws. Covers ws (step_uses (Goto target))) (sym s.0) (tt, (refl, tt))
+step-covered words (Label name) s = tt
+step-covered words (Cell to column row) s = subst (λ ws. Covers ws (step_uses (Cell to column row))) (sym s.1) (tt, (refl, (tt, (term-spelled s.0 row s.4, tt))))
+step-covered words (Rows to column) s = subst (λ ws. Covers ws (step_uses (Rows to column))) (sym s.0) (tt, (refl, tt))
+step-covered words (Spawn to kind arguments behind priority retry) s =
+    subst (λ ws. Covers ws (step_uses (Spawn to kind arguments behind priority retry))) (sym s.3)
+    (tt, (refl, (refl, each-covered SpellsPassed passed_use passed-spelled s.0 arguments _ (behind_uses UsesFuture behind) s.6 (behind-covered UsesFuture (λ name. refl) s.1 _ behind s.7))))
+step-covered words (All to members priority retry) s =
+    subst (λ ws. Covers ws (step_uses (All to members priority retry))) (sym s.2) (tt, (refl, list-covered SpellsFuture UsesFuture future-spelled s.0 members _ s.5))
+step-covered words (Copy to source) s = subst (λ ws. Covers ws (step_uses (Copy to source))) (sym s.0) (tt, (refl, (refl, tt)))
+step-covered words (Drop future) s = subst (λ ws. Covers ws (step_uses (Drop future))) (sym s.0) (tt, (refl, tt))
+step-covered words (Get to future) s = subst (λ ws. Covers ws (step_uses (Get to future))) (sym s.0) (tt, (refl, (refl, tt)))
+step-covered words (Again target behind priority) s =
+    subst (λ ws. Covers ws (step_uses (Again target behind priority))) (sym s.2) (tt, (refl, behind-covered UsesFuture (λ name. refl) s.0 s.1 behind s.4))
+step-covered words (Done value) s = subst (λ ws. Covers ws (step_uses (Done value))) (sym s.1) (tt, (term-spelled s.0 value s.2, tt))
+
+line-covered : (words : List Word) (w : What) → Spells words w → Covers words (line_uses w)
+line-covered words (what.Kind name arguments) s = tt
+line-covered words (what.Var variables) s = tt
+line-covered words (what.State name holds settled) s = subst (λ ws. Covers ws (line_uses (what.State name holds settled))) (sym s.2)
+    (tt, (tt, futures-covered (codes "holds") s.0 s.1 holds (futures_uses settled) s.4 (last-covered (codes "settled") s.1 settled s.5)))
+line-covered words (what.Step step) s = step-covered words step s
+line-covered words what.End s = tt
+line-covered words (what.Root name kind arguments behind priority) s = subst (λ ws. Covers ws (line_uses (what.Root name kind arguments behind priority))) (sym s.3)
+    (tt, (tt, (refl, each-covered SpellsRootTerm root_term_use root-term-spelled s.0 arguments _ (behind_uses UsesRoot behind) s.6 (behind-covered UsesRoot (λ name. refl) s.1 s.2 behind s.7))))
+
+-- the name that a line uses at a place is spelled by the word there
+pub use-spelled : (words : List Word) (w : What) → Spells words w → (place : ℕ) (used : Use) → slice_get (line_uses w) place ≡ Some used → SpelledAt words place used
+use-spelled words w s place used e = covers-at words (line_uses w) (line-covered words w s) place used e

@@ -1,0 +1,190 @@
+-- The language as a table: what is asked of each word of a line, and the cause where it is not so.
+use Rattle.std.specs.Prelude.{ℕ, Bool, false, not, if◌then◌else◌, nat_lt, Option, Some, None, is_some, List, [], ◌∷◌, ◌++◌, map, length, drop, codes}
+use Rattle.task_syntax.specs.Names.{same_bytes, is_name}
+use Rattle.task_syntax.specs.declared.program.Variable.{Variable}
+use Rattle.task_text.specs.declared.fault.Cause.{Cause}
+use Rattle.task_text.specs.declared.fault.Cause.TheVariants.{NoHeader, UnknownWord, BadName, BadNumber, TwiceNamed, TooMany, BackLabel, WordsLeft}
+use Rattle.task_text.specs.Text.{Word}
+use Rattle.task_text.specs.Scan.{is_missing, is_present, is_future, is_no_bad_number, is_operand, is_among}
+use Rattle.task_lines.specs.declared.keyword.Keyword.{Keyword}
+use Rattle.task_lines.specs.declared.keyword.Keyword.TheVariants as k
+use Rattle.task_lines.specs.declared.scope.Scope.{Scope}
+use Rattle.task_lines.specs.Keyword.{opening, relation_of, priority_of}
+use Rattle.task_lines.specs.Line.{is_variable_word, variable_of, is_new, is_root_argument}
+use Rattle.task_lines.specs.Steps.{is_argument}
+
+-- ---- what may be asked
+
+-- what is asked of a word, with the cause where it is not so
+abbrev pub Test : Type 0
+Test = (Word → Bool) × Cause
+
+-- what is asked of the words of a line from one of them on
+pub data Asked : Type 0 where
+  -- no further word
+  End : Asked
+  -- a word that passes the tests, and then what follows
+  One : List Test → Asked → Asked
+  -- as many words as pass a test, where each is asked what depends on those of the list before it; and then what follows
+  Many : (Word → Bool) → (List Word → List Test) → List Word → Asked → Asked
+  -- what depends on the word itself
+  By : (Word → Asked) → Asked
+
+-- the cause of the first test that the word does not pass
+abbrev pub failed_by : List Test → Word → Option Cause
+failed_by [] word = None
+failed_by (test ∷ tests) word = if test.0 word then failed_by tests word else Some test.1
+
+-- why the word may not stand here; a missing word is the empty word
+abbrev pub cause_of : Asked → Word → Option Cause
+cause_of End word = if is_missing word then None else Some WordsLeft
+cause_of (One tests next) word = failed_by tests word
+cause_of (Many test tests found next) word = if test word then failed_by (tests found) word else cause_of next word
+cause_of (By asked) word = cause_of (asked word) word
+
+-- what is asked behind the word
+abbrev pub behind_word : Asked → Word → Asked
+behind_word End word = End
+behind_word (One tests next) word = next
+behind_word (Many test tests found next) word =
+    if test word then Many test tests (found ++ word ∷ []) next else behind_word next word
+behind_word (By asked) word = behind_word (asked word) word
+
+-- what is asked behind the words
+abbrev pub behind_words : Asked → List Word → Asked
+behind_words asked [] = asked
+behind_words asked (word ∷ words) = behind_words (behind_word asked word) words
+
+-- ---- words
+
+abbrev pub this_word : Word → List Test
+this_word word = (same_bytes word, UnknownWord) ∷ []
+
+abbrev pub a_name : List Test
+a_name = (is_name, BadName) ∷ []
+
+abbrev pub a_future : List Test
+a_future = (is_future, BadName) ∷ []
+
+-- a name that is none of those taken
+abbrev pub new_name : Cause → List (List ℕ) → List Test
+new_name cause taken = (is_name, BadName) ∷ (λ word. not (is_among taken word), cause) ∷ []
+
+abbrev pub an_operand : List Test
+an_operand = (is_no_bad_number, BadNumber) ∷ (is_operand, BadName) ∷ []
+
+abbrev pub is_relation : Word → Bool
+is_relation word = is_some (relation_of word)
+
+abbrev pub is_priority : Word → Bool
+is_priority word = is_some (priority_of word)
+
+-- what comes next is not past its limit
+abbrev pub within : ℕ → ℕ → Test
+within count limit = (λ word. nat_lt count limit, TooMany)
+
+-- a first word that opens one of at most `limit`
+abbrev pub opens : ℕ → ℕ → List Test
+opens count limit = (is_present, UnknownWord) ∷ within count limit ∷ []
+
+-- a variable that is new behind those before the list and in it, of which there may be `limit`
+abbrev pub a_variable : ℕ → List Variable → List Word → List Test
+a_variable limit before found =
+    (is_variable_word, BadName) ∷ (is_new (before ++ map variable_of found), TwiceNamed)
+    ∷ within (length (before ++ map variable_of found)) limit ∷ []
+
+-- a future that does not stand in the list before
+abbrev pub other_future : List Word → List Test
+other_future found = (is_future, BadName) ∷ (λ word. not (is_among (map (drop 1) found) (drop 1 word)), TwiceNamed) ∷ []
+
+-- what is passed, of which there are at most 16
+abbrev pub an_argument : List Word → List Test
+an_argument found = (is_no_bad_number, BadNumber) ∷ within (length found) 16 ∷ []
+
+-- a member of an aggregate, which has at most 8
+abbrev pub a_member : List Word → List Test
+a_member found = (is_future, BadName) ∷ within (length found) 8 ∷ []
+
+-- ---- parts of lines
+
+abbrev pub at_least_one : (Word → Bool) → (List Word → List Test) → Asked → Asked
+at_least_one test tests next = By (λ word. One (tests []) (Many test tests (word ∷ []) next))
+
+-- the one where the next word passes the test, else the other
+abbrev pub where_word : (Word → Bool) → Asked → Asked → Asked
+where_word test one other = By (λ word. if test word then one else other)
+
+abbrev pub behind_part : Asked → Asked
+behind_part next = where_word (same_bytes (codes "behind")) (One (this_word (codes "behind")) (One a_future next)) next
+
+abbrev pub priority_part : Asked → Asked
+priority_part next = where_word is_priority (One ((is_priority, UnknownWord) ∷ []) next) next
+
+abbrev pub last_priority_part : Asked → Asked
+last_priority_part next = where_word is_missing next (One ((is_priority, UnknownWord) ∷ []) next)
+
+abbrev pub retry_part : Asked → Asked
+retry_part next = where_word is_missing next (One (this_word (codes "retry")) next)
+
+abbrev pub holds_part : Asked → Asked
+holds_part next =
+    where_word (same_bytes (codes "holds")) (One (this_word (codes "holds")) (at_least_one is_future other_future next)) next
+
+abbrev pub settled_part : Asked → Asked
+settled_part next =
+    where_word is_missing next (One (this_word (codes "settled")) (at_least_one is_present other_future next))
+
+-- ---- lines
+
+abbrev pub header_asked : Asked
+header_asked = One ((same_bytes (codes "ktask"), NoHeader) ∷ []) (One ((same_bytes (codes "1"), NoHeader) ∷ []) End)
+
+-- an instruction, of which a state has at most 64
+abbrev pub step_asked : Scope → Asked → Asked
+step_asked scope next = One (opens scope.steps 64) next
+
+abbrev pub math_asked : Scope → Asked
+math_asked scope = step_asked scope (One a_name (One an_operand (One an_operand End)))
+
+-- the line that a keyword opens
+abbrev pub keyword_asked : Scope → Keyword → Asked
+keyword_asked scope k.Kind =
+    One (opens (length scope.kinds) 64) (One (new_name TwiceNamed scope.kinds) (Many is_present (a_variable 16 []) [] End))
+keyword_asked scope k.Var =
+    One ((is_present, UnknownWord) ∷ []) (at_least_one is_present (a_variable 255 scope.variables) End)
+keyword_asked scope k.State =
+    One (opens (length scope.states) 32) (One (new_name TwiceNamed scope.states) (holds_part (settled_part End)))
+keyword_asked scope k.End = One ((is_present, UnknownWord) ∷ []) End
+keyword_asked scope k.Root =
+    One (opens (length scope.roots) 16) (One (new_name TwiceNamed scope.roots) (One a_name
+    (Many is_root_argument an_argument [] (behind_part (last_priority_part End)))))
+keyword_asked scope k.Label = step_asked scope (One (new_name TwiceNamed scope.labels) End)
+keyword_asked scope k.Set = step_asked scope (One a_name (One an_operand End))
+keyword_asked scope k.Add = math_asked scope
+keyword_asked scope k.Sub = math_asked scope
+keyword_asked scope k.Mul = math_asked scope
+keyword_asked scope k.Div = math_asked scope
+keyword_asked scope k.Rem = math_asked scope
+keyword_asked scope k.If =
+    step_asked scope (One an_operand (One ((is_relation, UnknownWord) ∷ []) (One an_operand
+    (One (this_word (codes "goto")) (One (new_name BackLabel scope.labels) End)))))
+keyword_asked scope k.Goto = step_asked scope (One (new_name BackLabel scope.labels) End)
+keyword_asked scope k.Cell = step_asked scope (One a_name (One a_name (One an_operand End)))
+keyword_asked scope k.Rows = step_asked scope (One a_name (One a_name End))
+keyword_asked scope k.Spawn =
+    step_asked scope (One a_future (One a_name
+    (Many is_argument an_argument [] (behind_part (priority_part (retry_part End))))))
+keyword_asked scope k.All = step_asked scope (One a_future (at_least_one is_future a_member (priority_part (retry_part End))))
+keyword_asked scope k.Copy = step_asked scope (One a_future (One a_future End))
+keyword_asked scope k.Drop = step_asked scope (One a_future End)
+keyword_asked scope k.Get = step_asked scope (One a_name (One a_future End))
+keyword_asked scope k.Again = step_asked scope (One a_name (behind_part (last_priority_part End)))
+keyword_asked scope k.Done = step_asked scope (One an_operand End)
+
+abbrev pub opened_by : Scope → Option Keyword → Asked
+opened_by scope None = One ((λ word. false, UnknownWord) ∷ []) End
+opened_by scope (Some keyword) = keyword_asked scope keyword
+
+-- what is asked of a line that stands behind those that made the scope
+abbrev pub line_asked : Scope → Asked
+line_asked scope = By (λ word. opened_by scope (opening scope.place word))
