@@ -8,6 +8,7 @@ use Rattle.task_syntax.specs.declared.instr.Instr.{Instr}
 use Rattle.task_syntax.specs.declared.instr.Instr.TheVariants.{Spawn, All, Copy, Drop, Get}
 use Rattle.task_syntax.specs.declared.instr.Line.{Line}
 use Rattle.task_syntax.specs.declared.program.State.{State}
+use Rattle.task_syntax.specs.declared.program.Variable.{Variable}
 use Rattle.task_syntax.specs.declared.program.Kind.{Kind}
 use Rattle.task_syntax.specs.declared.program.Program.{Program}
 use Rattle.task_meaning.specs.Frame.{FrameOf, code_at, code_in, state_in, go_on, set_number, variables_in}
@@ -55,6 +56,10 @@ pub gives-past : (p : Program) (old : List ℕ) → MayGive p (body_of p old) �
 gives-past p old may =
     let s = task-stands p old (MayGive p) (λ members next h. h) may in
     (s.1.0, record { task = s.0; stands = s.1.1; remains = read-remains s.1.0.instr s.1.2 }, s.1.2)
+
+-- the variables of a kind are those of the kind that is found
+pub of-kind : (p program : Program) (k : ℕ) (kind : Kind) (vs : List Variable) → program ≡ p → slice_get program.kinds k ≡ Some kind → vs ≡ variables_at p k → vs ≡ kind.variables
+of-kind p program k kind vs same found is = is ∙ (ap (λ (r : Program). variable_list (slice_get r.kinds k)) (sym same) ∙ ap variable_list found)
 
 -- the line of a frame, as it is read
 abbrev pub of-read : (p program : Program) (old read : List ℕ) (control : Control) (kind : Kind) (state : State) (line : Line) → program ≡ p → read ≡ old

@@ -9,14 +9,13 @@ ghost use Rattle.frame_code.specs.Entries.{MaySpawn, Passes, AgreesWith, MayEnte
 ghost use Rattle.frame_code.specs.Entries.{IsFrameOfMembers};
 
 use crate::act::SpawnRequest;
+use crate::code::CheckedCode;
 use crate::few::Few;
 use crate::held::is_held;
 use crate::lookup::{kind_at, state_at};
-use crate::places::count_numbers;
 use crate::set_variables::{at_entry, future};
 use crate::words::{AGGREGATE, Control, Frame};
-use arrayvec::ArrayVec;
-use task_syntax::{Checked, Sort};
+use task_syntax::Sort;
 
 /// What is passed to a new task: a number, or a future by the unit of the task that it names.
 #[derive(Debug, Clone, Copy, PartialEq, Eq)]
@@ -32,7 +31,7 @@ impl Default for Passed {
 }
 
 /// The unit that a future variable names, where it names one.
-fn named_unit(checked: &Checked, frame: &Frame, x: u16) -> u64
+fn named_unit(checked: &CheckedCode, frame: &Frame, x: u16) -> u64
     requires frame { IsFrame checked.now frame.now.items }
     requires named { NamesUnit checked.now frame.now.items x }
     ensures { unit_in checked.now frame.now.items x ≡ Some result }
@@ -43,19 +42,24 @@ fn named_unit(checked: &Checked, frame: &Frame, x: u16) -> u64
     }
 }
 
-/// What a spawn passes.
-pub fn passed_by(checked: &Checked, frame: &Frame, request: &SpawnRequest) -> Few<Passed, 16>
+/// Makes a list that of what a spawn passes.
+pub fn passed_by(
+    checked: &CheckedCode,
+    frame: &Frame,
+    request: &SpawnRequest,
+    passed: &mut Few<Passed, 16>,
+)
     requires frame { IsFrame checked.now frame.now.items }
     requires kind { request.now.kind < length checked.now.kinds }
     requires arguments { MaySpawn checked.now request.now frame.now.items }
-    ensures passed { Passes checked.now request.now frame.now.items result }
-    ensures agrees { AgreesWith checked.now request.now.kind result }
+    ensures passed { Passes checked.now request.now frame.now.items passed.new }
+    ensures agrees { AgreesWith checked.now request.now.kind passed.new }
 {
     let kind = kind_at(checked.program(), request.kind);
     let variables = kind.variables.as_slice();
     let numbers = request.numbers.as_slice();
     let futures = request.futures.as_slice();
-    let mut passed = Few::new();
+    passed.empty();
     let mut number = 0usize;
     let mut future = 0usize;
     'arguments: for at in 0..kind.arguments as usize {
@@ -70,7 +74,6 @@ pub fn passed_by(checked: &Checked, frame: &Frame, request: &SpawnRequest) -> Fe
             }
         }
     }
-    passed
 }
 
 /// The word of a future that is passed for a variable: 0, where it is not held.
@@ -82,7 +85,7 @@ fn future_word(holds: &[u16], x: usize, unit: u64) -> u64
 }
 
 /// Sets the variables for which something is passed in the words of a bare frame.
-fn put_passed(checked: &Checked, kind: u16, passed: &[Passed], words: &mut [u64])
+fn put_passed(checked: &CheckedCode, kind: u16, passed: &[Passed], words: &mut [u64])
     requires kind { kind < length checked.now.kinds }
     requires passed { MayEnterWith checked.now kind passed.now }
     requires frame { IsFrame checked.now words.old }
@@ -93,7 +96,7 @@ fn put_passed(checked: &Checked, kind: u16, passed: &[Passed], words: &mut [u64]
     let made = kind_at(checked.program(), kind);
     let entry = state_at(made, 0);
     let mut number = 1usize;
-    let mut future = 1 + count_numbers(made.variables.as_slice());
+    let mut future = 1 + checked.variables(kind).numbers();
     'passed: for x in 0..passed.len() {
         match passed[x] {
             Passed::Number(value) => {
@@ -108,35 +111,33 @@ fn put_passed(checked: &Checked, kind: u16, passed: &[Passed], words: &mut [u64]
     }
 }
 
-/// The first frame of a task to which this is passed. A future that the entry state does not hold
-/// is not named.
-pub fn entry_frame(checked: &Checked, kind: u16, passed: &[Passed]) -> Frame
+/// Makes a frame the first one of a task to which this is passed. A future that the entry state does
+/// not hold is not named.
+pub fn entry_frame(checked: &CheckedCode, kind: u16, passed: &[Passed], frame: &mut Frame)
     requires kind { kind < length checked.now.kinds }
     requires passed { MayEnterWith checked.now kind passed.now }
-    ensures frame { IsFrame checked.now result.items }
-    ensures entry { IsEntryOf checked.now kind passed.now result.items }
+    ensures frame { IsFrame checked.now frame.new.items }
+    ensures entry { IsEntryOf checked.now kind passed.now frame.new.items }
 {
-    let mut frame = at_entry(checked, kind);
+    at_entry(checked, kind, frame);
     put_passed(checked, kind, passed, frame.as_mut_slice());
-    frame
 }
 
-/// The first frame of an aggregate of 1 to 8 members, by their units.
-pub fn members_frame(members: &[u64]) -> Frame
+/// Makes a frame the first one of an aggregate of 1 to 8 members, by their units.
+pub fn members_frame(members: &[u64], frame: &mut Frame)
     requires some { 0 < length members.now }
     requires few { length members.now ≤ 8 }
     requires units { Each members.now (λ unit. unit + 1 < 2 ^ 64) }
-    ensures { IsFrameOfMembers members.now result.items }
+    ensures { IsFrameOfMembers members.now frame.new.items }
 {
-    let mut frame = ArrayVec::new();
     let control = Control {
         kind: AGGREGATE,
         state: members.len() as u16,
         at: 1,
     };
+    frame.clear();
     frame.push(control.pack());
     'members: for member in members {
         frame.push(*member + 1);
     }
-    frame
 }

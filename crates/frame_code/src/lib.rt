@@ -9,6 +9,7 @@
 
 mod act;
 mod arithmetic;
+mod code;
 mod entries;
 mod few;
 mod held;
@@ -25,6 +26,7 @@ mod size;
 mod words;
 
 pub use act::{Act, AllRequest, RespawnRequest, SpawnRequest};
+pub use code::CheckedCode;
 pub use entries::{Passed, entry_frame, members_frame, passed_by};
 pub use few::Few;
 pub use held::enter_held;
@@ -33,8 +35,8 @@ pub use laws::{
     words_are_their_body,
 };
 pub use moves::{enter, give, pass_on};
-pub use naming::{is_aggregate, member, names, units_named};
+pub use naming::{is_aggregate, member, naming_words, units_named};
 pub use run::advance;
-pub use set_variables::{assign, at_entry, future, has_sort, lift, set_number};
+pub use set_variables::{assign, at_entry, future, has_sort, lift, set_number, unit_of};
 pub use size::{class_of, members_class, words_of};
 pub use words::Frame;

@@ -5,10 +5,10 @@ ghost use Rattle.frame_code.specs.Moves.{IsRead, MayGive, MayPass, MayEnter};
 ghost use Rattle.frame_code.specs.Ways.{BodyHasWay};
 ghost use Rattle.frame_code.specs.Calls.{KeepsWay, IsGiven, IsPassedOn, IsEntered};
 
+use crate::code::CheckedCode;
 use crate::lookup::{kind_at, line_at, state_at};
-use crate::places::number_place;
 use crate::words::{AGGREGATE, Control, Frame, stand};
-use task_syntax::{Checked, Instr};
+use task_syntax::Instr;
 
 /// The variable that a read sets.
 fn variable_read(instr: &Instr) -> u16
@@ -23,7 +23,7 @@ fn variable_read(instr: &Instr) -> u16
 
 /// Gives a task the number that it asked for. It is set in the variable of the read, and the frame
 /// stands at the next line.
-pub fn give(checked: &Checked, frame: &mut Frame, number: u64)
+pub fn give(checked: &CheckedCode, frame: &mut Frame, number: u64)
     requires frame { IsFrame checked.now frame.old.items }
     requires read { MayGive checked.now (body_of checked.now frame.old.items) }
     ensures frame { IsFrame checked.now frame.new.items }
@@ -35,14 +35,14 @@ pub fn give(checked: &Checked, frame: &mut Frame, number: u64)
     let kind = kind_at(checked.program(), control.kind);
     let line = line_at(state_at(kind, control.state), control.at);
     let to = variable_read(&line.instr);
-    let place = number_place(kind.variables.as_slice(), to);
+    let place = checked.variables(control.kind).number_place(to);
     words[place] = number;
     stand(words, control.state, control.at + 1);
 }
 
 /// Moves a frame to the line after its spawn, `all`, `copy` or `drop`. The future that is named
 /// there is not set.
-pub fn pass_on(checked: &Checked, frame: &mut Frame)
+pub fn pass_on(checked: &CheckedCode, frame: &mut Frame)
     requires frame { IsFrame checked.now frame.old.items }
     requires passed { MayPass checked.now (body_of checked.now frame.old.items) }
     ensures frame { IsFrame checked.now frame.new.items }
@@ -59,7 +59,7 @@ pub fn pass_on(checked: &Checked, frame: &mut Frame)
 /// Moves a frame to the first line of the state to which its task respawns; the futures that are
 /// not held there are still named. An aggregate's frame moves past the member that it asked to be
 /// behind.
-pub fn enter(checked: &Checked, frame: &mut Frame, target: u16)
+pub fn enter(checked: &CheckedCode, frame: &mut Frame, target: u16)
     requires frame { IsFrame checked.now frame.old.items }
     requires respawn { MayEnter checked.now target (body_of checked.now frame.old.items) }
     ensures frame { IsFrame checked.now frame.new.items }

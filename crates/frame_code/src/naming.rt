@@ -6,12 +6,10 @@ ghost use Rattle.frame_code.specs.Frames.{IsFrame};
 ghost use Rattle.frame_code.specs.Names.{names_of};
 ghost use Rattle.frame_code.specs.Units.{HasMember, IsMember, AreFutures, units_of as units_in};
 
+use crate::code::CheckedCode;
 use crate::few::Few;
-use crate::lookup::kind_at;
-use crate::places::count_numbers;
-use crate::set_variables::future;
+use crate::set_variables::{future, variables_of};
 use crate::words::{AGGREGATE, Control, Frame};
-use task_syntax::Checked;
 
 /// Whether a frame is an aggregate's.
 pub fn is_aggregate(frame: &Frame) -> bool
@@ -29,36 +27,21 @@ pub fn member(frame: &Frame, position: u16) -> u64
     frame.as_slice()[1 + position as usize] - 1
 }
 
-/// The units that a frame names, in their order.
-pub fn names(checked: &Checked, frame: &Frame) -> Few<u64, 64>
+/// The words of a frame that name units: those of its futures, or of its members.
+pub fn naming_words<'a>(checked: &CheckedCode, frame: &'a Frame) -> &'a [u64]
     requires { IsFrame checked.now frame.now.items }
-    ensures { result ≡ names_of (body_of checked.now frame.now.items) }
+    ensures { filter_map unit_named result.now ≡ names_of (body_of checked.now frame.now.items) }
 {
     let words = frame.as_slice();
     if is_aggregate(frame) {
-        return units_of(&words[1..]);
+        return &words[1..];
     }
-    let kind = kind_at(checked.program(), Control::unpack(words[0]).kind);
-    let numbers = count_numbers(kind.variables.as_slice());
-    units_of(&words[1 + numbers..])
-}
-
-/// The units that these future words name.
-fn units_of(words: &[u64]) -> Few<u64, 64>
-    requires { length words.now ≤ 64 }
-    ensures { result ≡ filter_map unit_named words.now }
-{
-    let mut units = Few::new();
-    'words: for word in words {
-        if *word != 0 {
-            units.push(*word - 1);
-        }
-    }
-    units
+    let numbers = variables_of(checked, words).numbers();
+    &words[1 + numbers..]
 }
 
 /// The units that these future variables name, in their order.
-pub fn units_named(checked: &Checked, frame: &Frame, variables: &[u16]) -> Few<u64, 8>
+pub fn units_named(checked: &CheckedCode, frame: &Frame, variables: &[u16]) -> Few<u64, 8>
     requires frame { IsFrame checked.now frame.now.items }
     requires few { length variables.now ≤ 8 }
     requires futures { AreFutures checked.now frame.now.items variables.now }

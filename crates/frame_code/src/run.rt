@@ -10,15 +10,15 @@ ghost use Rattle.frame_code.specs.Calls.{Advances, Means, Allows, NamesStay, Kee
 ghost use Rattle.frame_code.specs.Run.{IsRun};
 
 use crate::act::{Act, RespawnRequest};
+use crate::code::CheckedCode;
 use crate::line::{Step, carry_out};
 use crate::lookup::{kind_at, line_at, state_at};
-use crate::places::number_places;
 use crate::request::request;
 use crate::words::{AGGREGATE, Control, Frame, stand};
-use task_syntax::{Checked, Columns, Priority};
+use task_syntax::{Columns, Priority};
 
 /// Runs a task to the first line where it stops.
-fn run(checked: &Checked, columns: &Columns, words: &mut [u64]) -> Act
+fn run(checked: &CheckedCode, columns: &Columns, words: &mut [u64]) -> Act
     requires frame { IsFrame checked.now words.old }
     requires task { is_aggregate (slice_index words.old 0) ≡ false }
     ensures run { IsRun checked.now columns.now words.old result words.new }
@@ -28,18 +28,18 @@ fn run(checked: &Checked, columns: &Columns, words: &mut [u64]) -> Act
     let control = Control::unpack(words[0]);
     let kind = kind_at(checked.program(), control.kind);
     let state = state_at(kind, control.state);
-    let places = number_places(kind.variables.as_slice());
+    let places = checked.variables(control.kind).places();
     let mut at = control.at;
     'lines: loop {
         let line = line_at(state, at);
-        match carry_out(kind, &line.instr, columns, places.as_slice(), words, at) {
+        match carry_out(kind, &line.instr, columns, places, words, at) {
             Step::Goes(next) => at = next,
             Step::Traps(trap) => {
                 stand(words, control.state, at);
                 return Act::Trap(trap);
             }
             Step::Asks => {
-                let asked = request(kind, &line.instr, places.as_slice(), words);
+                let asked = request(kind, &line.instr, places, words);
                 stand(words, control.state, at);
                 return asked;
             }
@@ -67,7 +67,7 @@ fn next_activation(members: u16, next: u16) -> Act
 /// Runs a task from where its frame stands to the first line where it cannot go on by itself, and
 /// tells what it asks for there. The frame then stands at that line. An aggregate's frame stays as
 /// it is.
-pub fn advance(checked: &Checked, columns: &Columns, frame: &mut Frame) -> Act
+pub fn advance(checked: &CheckedCode, columns: &Columns, frame: &mut Frame) -> Act
     requires { IsFrame checked.now frame.old.items }
     ensures frame { IsFrame checked.now frame.new.items }
     ensures acts { Advances checked.now columns.now frame.old.items result frame.new.items }

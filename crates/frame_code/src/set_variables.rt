@@ -6,17 +6,18 @@ ghost use Rattle.frame_code.specs.Words.{OfKind, unit_named, variables_at, body_
 ghost use Rattle.frame_code.specs.Frames.{IsFrame};
 ghost use Rattle.frame_code.specs.Setting.{HasSort, bare_call, unit_in, IsSetNumber, IsSetFuture};
 
+use crate::code::CheckedCode;
 use crate::lookup::kind_at;
-use crate::places::{future_place, number_place};
+use crate::places::KindVariables;
 use crate::words::{AGGREGATE, Control, Frame};
-use arrayvec::ArrayVec;
-use task_syntax::{Checked, Sort, Variable};
+use task_syntax::Sort;
 
-/// The frame of a task at the start of its entry state, before its arguments are set.
-pub fn at_entry(checked: &Checked, kind: u16) -> Frame
+/// Makes a frame that of a task at the start of its entry state, before its arguments are set.
+pub fn at_entry(checked: &CheckedCode, kind: u16, frame: &mut Frame)
     requires { kind < length checked.now.kinds }
-    ensures frame { IsFrame checked.now result.items }
-    ensures entry { body_of checked.now result.items ≡ OfKind (entry checked.now (bare_call kind)) }
+    ensures frame { IsFrame checked.now frame.new.items }
+    ensures entry { body_of checked.now frame.new.items
+        ≡ OfKind (entry checked.now (bare_call kind)) }
 {
     let variables = kind_at(checked.program(), kind).variables.len();
     let control = Control {
@@ -24,28 +25,25 @@ pub fn at_entry(checked: &Checked, kind: u16) -> Frame
         state: 0,
         at: 0,
     };
-    let mut frame = ArrayVec::new();
+    frame.clear();
     frame.push(control.pack());
     for _variable in 0..variables {
         frame.push(0);
     }
-    frame
 }
 
 /// The variables of the kind of a task's frame.
-pub fn variables_of<'a>(checked: &'a Checked, words: &[u64]) -> &'a [Variable]
+pub fn variables_of<'a>(checked: &'a CheckedCode, words: &[u64]) -> KindVariables<'a>
     requires frame { IsFrame checked.now words.now }
     requires task { is_aggregate (slice_index words.now 0) ≡ false }
-    ensures same { result.now ≡ variables_at checked.now (control_kind (slice_index words.now 0)) }
-    ensures few { length result.now ≤ 63 }
+    ensures same { result ≡ variables_at checked.now (control_kind (slice_index words.now 0)) }
+    ensures few { length result ≤ 63 }
 {
-    kind_at(checked.program(), Control::unpack(words[0]).kind)
-        .variables
-        .as_slice()
+    checked.variables(Control::unpack(words[0]).kind)
 }
 
 /// Whether a frame has a variable of this sort at a position.
-pub fn has_sort(checked: &Checked, frame: &Frame, sort: Sort, x: u16) -> bool
+pub fn has_sort(checked: &CheckedCode, frame: &Frame, sort: Sort, x: u16) -> bool
     requires { IsFrame checked.now frame.now.items }
     ensures { IsTrue result ↔ HasSort checked.now sort x frame.now.items }
 {
@@ -53,26 +51,26 @@ pub fn has_sort(checked: &Checked, frame: &Frame, sort: Sort, x: u16) -> bool
     if Control::unpack(words[0]).kind == AGGREGATE {
         return false;
     }
-    match variables_of(checked, words).get(x as usize) {
+    match variables_of(checked, words).as_slice().get(x as usize) {
         Some(variable) => variable.sort == sort,
         None => false,
     }
 }
 
 /// Sets a number variable of a frame.
-pub fn set_number(checked: &Checked, frame: &mut Frame, x: u16, number: u64)
+pub fn set_number(checked: &CheckedCode, frame: &mut Frame, x: u16, number: u64)
     requires frame { IsFrame checked.now frame.old.items }
     requires variable { HasSort checked.now NumberSort x frame.old.items }
     ensures frame { IsFrame checked.now frame.new.items }
     ensures set { IsSetNumber checked.now x number frame.old.items frame.new.items }
 {
     let words = frame.as_mut_slice();
-    let place = number_place(variables_of(checked, words), x);
+    let place = variables_of(checked, words).number_place(x);
     words[place] = number;
 }
 
-/// The unit that a future word names, if any.
-fn unit_of(word: u64) -> Option<u64>
+/// The unit that a word of a future or a member names, if any.
+pub fn unit_of(word: u64) -> Option<u64>
     ensures { result ≡ unit_named word }
 {
     match word {
@@ -82,21 +80,21 @@ fn unit_of(word: u64) -> Option<u64>
 }
 
 /// Puts a word into a future variable, and gives the old one.
-fn exchange(checked: &Checked, words: &mut [u64], x: u16, word: u64) -> u64
+fn exchange(checked: &CheckedCode, words: &mut [u64], x: u16, word: u64) -> u64
     requires frame { IsFrame checked.now words.old }
     requires variable { HasSort checked.now FutureSort x words.old }
     ensures frame { IsFrame checked.now words.new }
     ensures old { unit_named result ≡ unit_in checked.now words.old x }
     ensures set { IsSetFuture checked.now x (unit_named word) words.old words.new }
 {
-    let place = future_place(variables_of(checked, words), x);
+    let place = variables_of(checked, words).future_place(x);
     let old = words[place];
     words[place] = word;
     old
 }
 
 /// Lets a future variable name a unit, and tells which one it named before, if any.
-pub fn assign(checked: &Checked, frame: &mut Frame, to: u16, unit: u64) -> Option<u64>
+pub fn assign(checked: &CheckedCode, frame: &mut Frame, to: u16, unit: u64) -> Option<u64>
     requires frame { IsFrame checked.now frame.old.items }
     requires variable { HasSort checked.now FutureSort to frame.old.items }
     requires unit { unit + 1 < 2 ^ 64 }
@@ -108,7 +106,7 @@ pub fn assign(checked: &Checked, frame: &mut Frame, to: u16, unit: u64) -> Optio
 }
 
 /// Lets a future variable name nothing, and tells which unit it named before, if any.
-pub fn lift(checked: &Checked, frame: &mut Frame, x: u16) -> Option<u64>
+pub fn lift(checked: &CheckedCode, frame: &mut Frame, x: u16) -> Option<u64>
     requires frame { IsFrame checked.now frame.old.items }
     requires variable { HasSort checked.now FutureSort x frame.old.items }
     ensures frame { IsFrame checked.now frame.new.items }
@@ -119,12 +117,12 @@ pub fn lift(checked: &Checked, frame: &mut Frame, x: u16) -> Option<u64>
 }
 
 /// The unit that a future variable names, if any.
-pub fn future(checked: &Checked, frame: &Frame, x: u16) -> Option<u64>
+pub fn future(checked: &CheckedCode, frame: &Frame, x: u16) -> Option<u64>
     requires frame { IsFrame checked.now frame.now.items }
     requires variable { HasSort checked.now FutureSort x frame.now.items }
     ensures { result ≡ unit_in checked.now frame.now.items x }
 {
     let words = frame.as_slice();
-    let place = future_place(variables_of(checked, words), x);
+    let place = variables_of(checked, words).future_place(x);
     unit_of(words[place])
 }

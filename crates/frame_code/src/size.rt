@@ -2,8 +2,8 @@ ghost use Rattle.std.specs.Prelude.{◌≡◌, ◌+◌, ◌<◌, ◌≤◌, leng
 ghost use Rattle.kt_words.specs.Capacity.{class_for as class_of_words};
 ghost use Rattle.task_meaning.specs.Frame.{variables_of};
 
+use crate::code::CheckedCode;
 use crate::lookup::kind_at;
-use task_syntax::Checked;
 
 /// The smallest class whose blocks have so many words: 8 in class 0, and twice as many in each
 /// next class.
@@ -19,7 +19,7 @@ fn class_for(words: usize) -> u8
 }
 
 /// How many words the frames of a kind have.
-pub fn words_of(checked: &Checked, kind: u16) -> u32
+pub fn words_of(checked: &CheckedCode, kind: u16) -> u32
     requires { kind < length checked.now.kinds }
     ensures { result ≡ 1 + variables_of checked.now kind }
 {
@@ -27,7 +27,7 @@ pub fn words_of(checked: &Checked, kind: u16) -> u32
 }
 
 /// The class of the block of a task of a kind.
-pub fn class_of(checked: &Checked, kind: u16) -> u8
+pub fn class_of(checked: &CheckedCode, kind: u16) -> u8
     requires { kind < length checked.now.kinds }
     ensures { result ≡ class_of_words (1 + variables_of checked.now kind) }
 {

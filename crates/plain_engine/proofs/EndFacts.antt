@@ -1,5 +1,5 @@
 -- The first and the last state of a run of an engine.
-use Rattle.std.proofs.Common.{◌≡◌, ℕ, ◌≤◌, Some, List, length, slice_get, inl, inr, refl, sym, ◌∙◌, ap, subst, arith}
+use Rattle.std.proofs.Common.{◌≡◌, ℕ, Some, length, slice_get, inl, inr, sym, ap, subst, arith}
 use Rattle.std.specs.Int.{IsPowerOfTwo}
 use Rattle.task_syntax.specs.Form.{IsWellFormed}
 use Rattle.task_syntax.specs.Valid.{IsValid}
@@ -22,7 +22,7 @@ use Rattle.plain_state.specs.declared.record.RootState.TheVariants as root
 use Rattle.plain_state.specs.Engine.{EngineState, unused_engine}
 use Rattle.plain_state.specs.Laws.{Asked, MayRun}
 use Rattle.plain_engine.specs.EngineView.{HasRecord, IsReadable, end_of}
-use Rattle.plain_engine.specs.Going.{IdlesAt, IsAtEnd, IsIdle}
+use Rattle.plain_engine.specs.Going.{IdlesAt, IsAtEnd}
 use Rattle.plain_engine.specs.Roots.{AsksAll, MayAskAll}
 use Rattle.plain_engine.proofs.RootFacts.{known_within}
 use Rattle.plain_engine.proofs.StepLaws.{all_asked, end_is_seen, ended_roots_are_known, ended_roots_are_many, evidence_is_whole, none_asked, none_left}

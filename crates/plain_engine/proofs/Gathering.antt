@@ -4,7 +4,6 @@ use Rattle.std.proofs.lemmas.Option.{none-some, slice_get_within}
 use Rattle.task_syntax.specs.Places.{Each}
 use Rattle.task_syntax.specs.declared.program.Program.{Program}
 use Rattle.task_syntax.specs.declared.columns.Columns.{Columns}
-use Rattle.task_meaning.specs.Meant.{future_at}
 use Rattle.frame_code.specs.Words.{BodyOf, OfKind, OfMembers, body_of}
 use Rattle.frame_code.specs.Names.{present, names_of}
 use Rattle.frame_code.specs.Setting.{unit_of}

@@ -1,8 +1,7 @@
 -- A root that is refused a block or a number.
-use Rattle.std.proofs.Common.{◌≡◌, ℕ, Option, sym, subst}
+use Rattle.std.proofs.Common.{◌≡◌, ℕ, sym, subst}
 use Rattle.task_syntax.specs.declared.program.Program.{Program}
 use Rattle.task_syntax.specs.declared.program.Root.{Root as RootLine}
-use Rattle.pool_core.specs.Pool.{Gives, HasNoRoom}
 use Rattle.record_core.specs.EndSeen.{RunPlan}
 use Rattle.record_core.specs.EndSound.{kind_class}
 use Rattle.record_core.specs.declared.rows.CutTag.{CutTag}

@@ -1,7 +1,7 @@
 -- A respawn is a step of the run: what it is behind is known, and its further activation is the one of the law.
-use Rattle.std.proofs.Common.{◌≡◌, ℕ, zero, suc, ◌+◌, ◌<◌, ◌≤◌, cond, nat_eq, false, Option, Some, None, List, [], ◌∷◌, length, slice_get, refl, sym, ◌∙◌, ap, subst, arith}
+use Rattle.std.proofs.Common.{◌≡◌, ℕ, zero, suc, ◌+◌, ◌<◌, ◌≤◌, cond, nat_eq, Option, Some, None, List, [], ◌∷◌, length, slice_get, refl, sym, ◌∙◌, ap, subst, arith}
 use Rattle.std.specs.Prelude.{IfSome}
-use Rattle.std.proofs.lemmas.Option.{none-some, same_Some, slice_get_within}
+use Rattle.std.proofs.lemmas.Option.{none-some, slice_get_within}
 use Rattle.task_syntax.specs.Places.{Each}
 use Rattle.task_syntax.specs.declared.value.Priority.{Priority}
 use Rattle.task_syntax.specs.declared.program.Program.{Program}
@@ -14,22 +14,20 @@ use Rattle.frame_code.specs.Units.{IsEnteredHeld, GivesUp}
 use Rattle.frame_code.specs.declared.act.RespawnRequest.{RespawnRequest}
 use Rattle.frame_code.specs.declared.act.Act.TheVariants as act
 use Rattle.record_core.specs.Numbers.{HasTask}
-use Rattle.record_core.specs.Journal.{next_number, with_accepted}
 use Rattle.record_core.specs.declared.rows.Cause.TheVariants as cause
 use Rattle.record_core.specs.declared.rows.CutTag.TheVariants.{Limit}
 use Rattle.run_model.specs.Step.{step}
 use Rattle.plain_state.specs.declared.record.Behind.{Behind}
-use Rattle.plain_state.specs.declared.record.Record.{Record}
 use Rattle.plain_state.specs.declared.record.Outcome.{Outcome}
 use Rattle.plain_state.specs.declared.record.Outcome.TheVariants.{WasCut}
 use Rattle.plain_state.specs.Store.{HasUnit, units_of}
 use Rattle.plain_state.specs.Engine.{EngineState}
 use Rattle.plain_state.specs.Sees.{Rests, times}
-use Rattle.plain_state.specs.Moves.{behind_at, behind_record, behind_ended, renewed_task, MayRenew}
-use Rattle.plain_state.specs.Laws.{RenewsTask, respawn_unit, respawn_priority, entered_held, unit_in_if}
+use Rattle.plain_state.specs.Moves.{behind_at, behind_record, behind_ended, renewed_task}
+use Rattle.plain_state.specs.Laws.{RenewsTask, respawn_unit, entered_held}
 use Rattle.plain_engine.specs.Asking.{IsKnown}
-use Rattle.plain_engine.specs.Ending.{Moment, Ends, EndsAt, MayEnd, MayRenewAt, MayGoOn, gone_on, renewed_at, task_at, task_or_none}
-use Rattle.plain_engine.specs.Going.{AsksAt, MayCarryOut, CarriesOut, PriorityIs}
+use Rattle.plain_engine.specs.Ending.{Moment, EndsAt, MayRenewAt, MayGoOn, gone_on, renewed_at, task_at, task_or_none}
+use Rattle.plain_engine.specs.Going.{AsksAt, MayCarryOut, PriorityIs}
 use Rattle.plain_engine.proofs.StepLaws.{names_are_known, running_is_known, respawn_is_step}
 use Rattle.plain_engine.proofs.RunningFacts.{running_is_under_way}
 use Rattle.plain_engine.proofs.StoreSizes.{changed_size, unit_stays, fits_still}

@@ -1,17 +1,15 @@
 -- What is passed to a root whose earlier roots have tasks.
-use Rattle.std.proofs.Common.{◌≡◌, ℕ, zero, suc, ◌+◌, ◌<◌, ◌≤◌, ◌^◌, Option, Some, None, List, [], ◌∷◌, ◌++◌, length, map, slice_get, slice_index_or, IfSome, refl, sym, ◌∙◌, ap, subst, arith}
+use Rattle.std.proofs.Common.{◌≡◌, ℕ, zero, suc, ◌<◌, ◌≤◌, Option, Some, None, List, [], ◌∷◌, length, slice_get, refl, sym, ◌∙◌, ap, subst, arith}
 use Rattle.std.specs.List.{flat_map}
 use Rattle.std.specs.Option.{option_or}
-use Rattle.std.proofs.lemmas.Option.{slice_get_within, none-some, same_Some}
-use Rattle.task_syntax.specs.Valid.{sort_of_root}
+use Rattle.std.proofs.lemmas.Option.{none-some, same_Some}
 use Rattle.task_syntax.specs.Form.{IsFormedRootArgument}
 use Rattle.task_syntax.specs.declared.program.Program.{Program}
 use Rattle.task_syntax.specs.declared.program.Root.{Root as RootLine}
 use Rattle.task_syntax.specs.declared.program.RootArgument.{RootArgument}
 use Rattle.task_syntax.specs.declared.program.RootArgument.TheVariants as root_argument
 use Rattle.task_meaning.specs.Meant.{future_at}
-use Rattle.record_core.specs.RootEnds.{root_passed, root_waited, roots_named}
-use Rattle.record_core.specs.declared.rows.CutTag.{CutTag}
+use Rattle.record_core.specs.RootEnds.{root_passed, root_waited}
 use Rattle.plain_state.specs.declared.record.RootState.{RootState}
 use Rattle.plain_state.specs.declared.record.RootState.TheVariants as root
 use Rattle.plain_state.specs.Engine.{EngineState}

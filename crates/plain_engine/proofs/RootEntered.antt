@@ -1,5 +1,5 @@
 -- What is passed to a root fits its kind.
-use Rattle.std.proofs.Common.{◌≡◌, ℕ, zero, suc, ◌+◌, ◌<◌, ◌≤◌, ◌^◌, Option, Some, None, List, [], ◌∷◌, length, map, drop, slice_get, IfSome, refl, sym, ◌∙◌, ap, subst, arith}
+use Rattle.std.proofs.Common.{◌≡◌, ℕ, zero, suc, ◌+◌, ◌<◌, ◌≤◌, ◌^◌, Option, Some, None, List, [], ◌∷◌, length, map, drop, slice_get, IfSome, refl, sym, ◌∙◌, ap, arith}
 use Rattle.std.proofs.lemmas.Option.{slice_get_within, none-some, same_Some}
 use Rattle.task_syntax.specs.Valid.{sort_of_root}
 use Rattle.task_syntax.specs.declared.program.Kind.{Kind}
@@ -9,10 +9,9 @@ use Rattle.task_syntax.specs.declared.program.Root.{Root as RootLine}
 use Rattle.task_syntax.specs.declared.program.RootArgument.{RootArgument}
 use Rattle.task_syntax.specs.declared.program.RootArgument.TheVariants as root_argument
 use Rattle.task_meaning.specs.Frame.{CallOf}
-use Rattle.task_meaning.specs.Meant.{future_at}
-use Rattle.task_meaning.specs.Roots.{root_future, root_number}
+use Rattle.task_meaning.specs.Roots.{root_future}
 use Rattle.frame_code.specs.Words.{variable_list, variables_at}
-use Rattle.frame_code.specs.Entries.{MayEnterWith, future_of, number_of, sort_of_passed}
+use Rattle.frame_code.specs.Entries.{MayEnterWith, future_of, sort_of_passed}
 use Rattle.frame_code.specs.declared.entries.Passed.{Passed}
 use Rattle.frame_code.specs.declared.entries.Passed.TheVariants as passed
 use Rattle.plain_state.specs.Engine.{EngineState}

@@ -1,15 +1,14 @@
 -- What asking for a root does to the list of roots, and when the roots that a root names have tasks.
-use Rattle.std.proofs.Common.{◌≡◌, ℕ, zero, suc, ◌+◌, ◌<◌, ◌≤◌, Option, Some, None, List, [], ◌∷◌, ◌++◌, length, map, slice_get, IfSome, refl, sym, ◌∙◌, ap, subst, arith}
-use Rattle.std.proofs.lemmas.Option.{slice_get_within, none-some, same_Some}
+use Rattle.std.proofs.Common.{◌≡◌, ℕ, ◌+◌, ◌<◌, Option, Some, None, List, [], ◌∷◌, ◌++◌, length, IfSome, refl, sym, ◌∙◌, ap, subst, arith}
+use Rattle.std.proofs.lemmas.Option.{slice_get_within}
 use Rattle.task_syntax.specs.declared.program.Program.{Program}
 use Rattle.task_syntax.specs.declared.program.Root.{Root as RootLine}
 use Rattle.record_core.specs.EndSeen.{RunPlan}
 use Rattle.record_core.specs.Numbers.{HasTask}
 use Rattle.plain_state.specs.declared.record.Outcome.{Outcome}
-use Rattle.plain_state.specs.declared.record.Record.{Record}
 use Rattle.plain_state.specs.declared.record.RootState.{RootState}
 use Rattle.plain_state.specs.Store.{HasUnit}
-use Rattle.plain_state.specs.Engine.{EngineState, null_counted, null_counted_if, with_root}
+use Rattle.plain_state.specs.Engine.{EngineState, null_counted_if, with_root}
 use Rattle.plain_state.specs.Moves.{behind_at, behind_ended, behind_record}
 use Rattle.plain_state.specs.Laws.{AsksRoot, skips, has_null, has_limit, has_task}
 use Rattle.plain_engine.specs.Asking.{IsKnown}

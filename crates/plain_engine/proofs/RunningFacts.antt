@@ -2,11 +2,9 @@
 use Rattle.std.proofs.Common.{◌≡◌, ℕ, Option, Some, None, List, [], slice_get, refl, sym, ◌∙◌, ap, subst}
 use Rattle.std.specs.List.{filter_map}
 use Rattle.task_syntax.specs.Places.{Each}
-use Rattle.task_syntax.specs.Valid.{Held}
-use Rattle.task_syntax.specs.declared.program.State.{State}
 use Rattle.task_syntax.specs.declared.program.Program.{Program}
 use Rattle.task_syntax.specs.declared.columns.Columns.{Columns}
-use Rattle.task_meaning.specs.Frame.{FrameOf, state_in, state_at, frame_with, renamed}
+use Rattle.task_meaning.specs.Frame.{state_in, state_at, frame_with, renamed}
 use Rattle.frame_code.specs.Words.{OfKind, OfMembers, body_of}
 use Rattle.frame_code.specs.Names.{body_with}
 use Rattle.frame_code.specs.Members.{member_act}

@@ -1,5 +1,5 @@
 -- What a spawn wants.
-use Rattle.std.proofs.Common.{◌≡◌, ℕ, zero, suc, ◌+◌, ◌<◌, ◌≤◌, ◌^◌, true, Option, Some, None, List, [], ◌∷◌, ◌++◌, length, map, drop, slice_get, IfSome, refl, sym, ◌∙◌, ap, subst, arith}
+use Rattle.std.proofs.Common.{◌≡◌, ℕ, zero, suc, ◌+◌, ◌<◌, ◌^◌, true, Option, Some, None, List, [], ◌∷◌, ◌++◌, length, map, slice_get, IfSome, refl, sym, ◌∙◌, ap, subst, arith}
 use Rattle.std.specs.Option.{option_to_list}
 use Rattle.std.proofs.lemmas.Option.{none-some, same_Some}
 use Rattle.std.specs.List.{filter_map}
@@ -11,12 +11,11 @@ use Rattle.task_syntax.specs.declared.instr.Argument.{Argument}
 use Rattle.task_syntax.specs.declared.instr.Argument.TheVariants as argument
 use Rattle.task_syntax.specs.declared.instr.Instr.{Instr}
 use Rattle.task_syntax.specs.declared.instr.Instr.TheVariants.{Math, Cell, Spawn}
-use Rattle.task_syntax.specs.declared.program.Kind.{Kind}
 use Rattle.task_syntax.specs.declared.program.Variable.{Variable}
 use Rattle.task_syntax.specs.declared.program.Program.{Program}
 use Rattle.task_syntax.specs.declared.columns.Columns.{Columns}
 use Rattle.task_meaning.specs.Meant.{future_at}
-use Rattle.task_meaning.specs.Frame.{FrameOf, CallOf, operand, state_in, state_at, frame_with, renamed, spawned, entry, number_passed, future_passed}
+use Rattle.task_meaning.specs.Frame.{FrameOf, operand, state_in, state_at, frame_with, renamed, spawned, entry, number_passed, future_passed}
 use Rattle.task_meaning.specs.Acts.{Calls, ActsAt, act_of}
 use Rattle.task_meaning.specs.Arithmetic.{computed, cell_at}
 use Rattle.task_meaning.proofs.Renaming.{future_at-renamed}
@@ -24,10 +23,8 @@ use Rattle.frame_code.specs.Words.{BodyOf, OfKind, OfMembers, variable_list, var
 use Rattle.frame_code.specs.Names.{body_with}
 use Rattle.frame_code.specs.Members.{member_act}
 use Rattle.frame_code.specs.Stops.{stop_at, StopsAt, trapped, numbers_passed, variables_passed}
-use Rattle.frame_code.specs.Meant.{futures_in}
-use Rattle.frame_code.specs.Entries.{Requests, BodyMaySpawn, BodyPasses, MaySpawn, Passes, AgreesWith, MayEnterWith, IsEntryOf, call_of, number_of, future_of, sort_of_passed}
+use Rattle.frame_code.specs.Entries.{Requests, BodyMaySpawn, BodyPasses, MaySpawn, Passes, AgreesWith, MayEnterWith, IsEntryOf, call_of, future_of}
 use Rattle.frame_code.specs.declared.entries.Passed.{Passed}
-use Rattle.frame_code.specs.declared.entries.Passed.TheVariants as passed
 use Rattle.frame_code.specs.declared.act.Act.{Act}
 use Rattle.frame_code.specs.declared.act.Act.TheVariants as act
 use Rattle.frame_code.specs.declared.act.SpawnRequest.{SpawnRequest}
@@ -39,14 +36,14 @@ use Rattle.run_model.proofs.SeatFacts.{seat_sound}
 use Rattle.plain_state.specs.Engine.{EngineState}
 use Rattle.plain_state.specs.Sees.{Runs}
 use Rattle.plain_state.specs.Sees as sees
-use Rattle.plain_state.specs.Laws.{MayRun, AsksFor, Wanted, Wants, SpawnWants, unit_in_if}
+use Rattle.plain_state.specs.Laws.{MayRun, AsksFor, Wants, unit_in_if}
 use Rattle.plain_state.proofs.Units.{unit_in_use}
 use Rattle.plain_state.proofs.FewReferences.{unit_small}
 use Rattle.plain_state.proofs.Running.{own_says}
 use Rattle.plain_state.proofs.OwnLaws.{names_held, frame_seat, frame_runs, frame_used}
 use Rattle.plain_engine.specs.Ending.{Moment}
 use Rattle.plain_engine.specs.Going.{AsksAt, AsksNewAt, MayCarryOut, wanted}
-use Rattle.plain_engine.proofs.RootEntered.{there_at, map_length, same_at}
+use Rattle.plain_engine.proofs.RootEntered.{there_at, same_at}
 
 -- the instruction that stops a frame by a spawn
 abbrev SpawnShape : {A : Type 0} → FrameOf A → Option Act → Instr → Type 0

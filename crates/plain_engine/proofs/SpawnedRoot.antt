@@ -1,5 +1,5 @@
 -- A root that is given a block and a number.
-use Rattle.std.proofs.Common.{◌≡◌, ℕ, ◌<◌, None, List, length, refl, sym, ◌∙◌, ap, subst}
+use Rattle.std.proofs.Common.{◌≡◌, ℕ, None, List, length, sym, ◌∙◌, ap, subst}
 use Rattle.task_syntax.specs.declared.program.Program.{Program}
 use Rattle.task_syntax.specs.declared.program.Root.{Root as RootLine}
 use Rattle.task_meaning.specs.Frame.{entry}
@@ -10,7 +10,7 @@ use Rattle.frame_code.specs.Frames.{IsFrame}
 use Rattle.frame_code.specs.Names.{names_of}
 use Rattle.frame_code.specs.Entries.{IsEntryOf}
 use Rattle.frame_code.specs.declared.entries.Passed.{Passed}
-use Rattle.record_core.specs.Journal.{next_number, with_accepted}
+use Rattle.record_core.specs.Journal.{next_number}
 use Rattle.record_core.specs.EndSeen.{RunPlan}
 use Rattle.record_core.specs.EndSound.{kind_class}
 use Rattle.plain_state.specs.declared.record.Behind.{Behind}

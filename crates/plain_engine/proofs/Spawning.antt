@@ -1,5 +1,5 @@
 -- Asking for a task is a step of the run, whatever comes of it.
-use Rattle.std.proofs.Common.{◌≡◌, ℕ, ◌+◌, ◌<◌, ◌≤◌, ◌^◌, Bool, true, false, Option, Some, None, List, length, refl, sym, ◌∙◌, ap, subst}
+use Rattle.std.proofs.Common.{◌≡◌, ℕ, ◌<◌, ◌≤◌, Bool, true, false, Option, Some, None, List, length, refl, sym, subst}
 use Rattle.task_syntax.specs.declared.program.Program.{Program}
 use Rattle.frame_code.specs.Words.{BodyOf, body_of}
 use Rattle.frame_code.specs.Frames.{IsFrame}
@@ -12,13 +12,12 @@ use Rattle.record_core.specs.declared.rows.CutTag.{CutTag}
 use Rattle.record_core.specs.declared.rows.CutTag.TheVariants.{Null, Limit}
 use Rattle.record_core.specs.declared.rows.Cause.TheVariants as cause
 use Rattle.run_model.specs.Step.{step}
-use Rattle.plain_state.specs.declared.record.Behind.{Behind}
 use Rattle.plain_state.specs.declared.record.Outcome.TheVariants.{WasCut}
 use Rattle.plain_state.specs.Engine.{EngineState, with_pool, null_counted, null_counted_if}
 use Rattle.plain_state.specs.Sees.{Runs}
 use Rattle.plain_state.specs.Moves.{behind_at}
 use Rattle.plain_state.specs.Laws.{MayRun, Wanted, Wants, Spawns}
-use Rattle.plain_engine.specs.Asking.{IsGiven, IsAtLimit, IsRefused, IsNamed, MayCountNull, MayPlace, placed, units_in}
+use Rattle.plain_engine.specs.Asking.{IsGiven, IsRefused, IsNamed, MayCountNull, MayPlace, placed, units_in}
 use Rattle.plain_engine.specs.Ending.{Moment, EndsAt, RefusedAt}
 use Rattle.plain_engine.proofs.StepLaws.{spawn_is_step, spawn_at_the_limit, null_is_step, retry_is_step}
 use Rattle.plain_engine.proofs.CarriedOut.{after_step}

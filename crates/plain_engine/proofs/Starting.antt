@@ -10,12 +10,12 @@ use Rattle.record_core.specs.EndSeen.{RunPlan}
 use Rattle.record_core.specs.declared.rows.ActivationRow.{ActivationRow}
 use Rattle.record_core.specs.declared.rows.CutTag.{CutTag}
 use Rattle.run_model.specs.State.{Queues, Run, next_queued}
-use Rattle.run_model.specs.Step.{step, steps}
+use Rattle.run_model.specs.Step.{step}
 use Rattle.plain_state.specs.declared.record.Record.{Record}
 use Rattle.plain_state.specs.Store.{frame_at}
 use Rattle.plain_state.specs.Engine.{EngineState, with_store}
 use Rattle.plain_state.specs.Moves.{begun}
-use Rattle.plain_state.specs.Laws.{RestsThen, StartIsReady, starts_left}
+use Rattle.plain_state.specs.Laws.{StartIsReady, starts_left}
 use Rattle.plain_records.specs.Allocated.{HasFrame}
 use Rattle.plain_engine.specs.Ending.{CutAt, EndsCut, MayBeCut, Moment}
 use Rattle.plain_engine.specs.Going.{IdlesAt, IsIdle, IsRunning, MayStart, RunsAt, RunsToItsEnd, TakesNext, Turns, started}

@@ -1,5 +1,5 @@
 -- Turns, one after the other.
-use Rattle.std.proofs.Common.{◌≡◌, ℕ, suc, ◌<◌, Bool, true, false, None, refl, sym, ◌∙◌, ap, subst}
+use Rattle.std.proofs.Common.{◌≡◌, suc, ◌<◌, Bool, true, false, sym, subst}
 use Rattle.task_syntax.specs.declared.program.Program.{Program}
 use Rattle.task_syntax.specs.declared.columns.Columns.{Columns}
 use Rattle.record_core.specs.EndSeen.{RunPlan}
@@ -8,7 +8,7 @@ use Rattle.run_model.specs.Step.{steps}
 use Rattle.plain_state.specs.Engine.{EngineState}
 use Rattle.plain_state.specs.Sees.{Rests}
 use Rattle.plain_state.specs.Laws.{starts_left}
-use Rattle.plain_engine.specs.Going.{ComesToEnd, IdlesAt, IsAtEnd, IsIdle, IsOver, TakesStart, Turns}
+use Rattle.plain_engine.specs.Going.{ComesToEnd, IdlesAt, IsIdle, IsOver, TakesStart, Turns}
 
 -- at some state of the run nothing runs, whatever state the run came from
 abbrev pub ComesToRest : Program → Columns → EngineState → EngineState → Type 0

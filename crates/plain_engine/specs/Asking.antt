@@ -14,7 +14,7 @@ use Rattle.record_core.specs.declared.rows.CutTag.{CutTag}
 use Rattle.record_core.specs.declared.rows.CutTag.TheVariants.{Null, Limit}
 use Rattle.plain_state.specs.declared.record.Behind.{Behind}
 use Rattle.plain_state.specs.declared.record.Record.{Record}
-use Rattle.plain_state.specs.Store.{StoreState, held_all, made, stored, without_block, HasUnit, MayHoldAll, FitsAt}
+use Rattle.plain_state.specs.Store.{StoreState, held, held_all, made, stored, without_block, HasUnit, MayHold, MayHoldAll, FitsAt}
 use Rattle.plain_state.specs.Engine.{EngineState, with_store, with_pool, null_counted}
 use Rattle.plain_state.specs.Moves.{arrived, new_record, let_go_if, MayArrive, MayLetGoIf}
 use Rattle.plain_engine.specs.declared.ask.Answer.{Answer}
@@ -59,6 +59,15 @@ pub record MayMake (block : BlockState) (names words : List ℕ) (s : StoreState
   pub within : HasUnit s block.unit
   pub fits : FitsAt s block.unit (length words)
   pub hold : MayHoldAll names s
+
+-- what a word names, if anything, is held once more
+abbrev pub held_if : Option ℕ → StoreState → StoreState
+held_if None s = s
+held_if (Some unit) s = held unit s
+
+abbrev pub MayHoldIf : Option ℕ → StoreState → Type 0
+MayHoldIf None s = Unit {0}
+MayHoldIf (Some unit) s = MayHold unit s
 
 -- the units that the words of a frame name
 abbrev pub units_in : Program → List ℕ → List ℕ

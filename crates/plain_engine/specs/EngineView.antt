@@ -1,5 +1,5 @@
 -- The fields of an engine as one state, and what they keep.
-use Rattle.std.specs.Prelude.{◌≡◌, ℕ, ◌<◌, ◌≤◌, ◌^◌, Option, Some, None, List, [], IsSome, length, slice_get}
+use Rattle.std.specs.Prelude.{◌≡◌, ℕ, ◌≤◌, Option, Some, None, List, [], IsSome, length, slice_get}
 use Rattle.kt_words.specs.declared.super_word.SuperWord.{SuperWord}
 use Rattle.record_core.specs.Journal.{JournalState}
 use Rattle.record_core.specs.EndSeen.{EndSeen, RunPlan}

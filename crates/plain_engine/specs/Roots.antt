@@ -1,5 +1,5 @@
 -- What roots are asked for, and what is passed to them.
-use Rattle.std.specs.Prelude.{◌≡◌, ℕ, ◌≤◌, Option, Some, None, List, length, map, take, slice_get}
+use Rattle.std.specs.Prelude.{◌≡◌, ℕ, ◌≤◌, Some, None, List, length, map, take, slice_get}
 use Rattle.task_syntax.specs.declared.program.Program.{Program}
 use Rattle.task_syntax.specs.declared.program.Root.{Root as RootLine}
 use Rattle.task_syntax.specs.declared.program.RootArgument.{RootArgument}

@@ -1,6 +1,7 @@
 ghost use Rattle.std.specs.Prelude.{◌≡◌, ◌≤◌, Some, IfSome};
 ghost use Rattle.task_syntax.specs.declared.program.Sort.TheVariants.{Future};
-ghost use Rattle.frame_code.specs.Words.{body_of};
+ghost use Rattle.std.specs.List.{filter_map};
+ghost use Rattle.frame_code.specs.Words.{body_of, unit_named};
 ghost use Rattle.frame_code.specs.Frames.{IsFrame};
 ghost use Rattle.frame_code.specs.Moves.{MayPass};
 ghost use Rattle.frame_code.specs.Setting.{HasSort, unit_in};
@@ -8,15 +9,15 @@ ghost use Rattle.record_core.specs.Numbers.{HasTask};
 ghost use Rattle.plain_state.specs.Store.{MayHoldAll, MayLetGo, MayHold, held, held_all, let_go};
 ghost use Rattle.plain_state.specs.Engine.{with_store};
 ghost use Rattle.plain_state.specs.Moves.{MayLetGoIf};
-ghost use Rattle.plain_engine.specs.Asking.{IsAnswer, IsNamed, MayCountNull, MayMake, units_in};
+ghost use Rattle.plain_engine.specs.Asking.{IsAnswer, IsNamed, MayCountNull, MayHoldIf, MayMake, held_if, units_in};
 ghost use Rattle.plain_engine.specs.Asking.{MayPlace, placed, with_task, without_named};
 
 use crate::engine::Engine;
-use frame_code::{Frame, assign, names, pass_on};
-use plain_state::{Behind, Record};
+use frame_code::{CheckedCode, Frame, assign, naming_words, pass_on, unit_of};
+use plain_state::Behind;
 use pool_core::Block;
 use record_core::CutTag;
-use task_syntax::{Checked, Priority};
+use task_syntax::Priority;
 
 /// What comes of asking for a new task: a block and a number, or which of the two is wanting.
 pub enum Answer {
@@ -49,7 +50,7 @@ impl Engine {
     /// Makes the record of a new task, which is about to be named once.
     pub fn make(
         &mut self,
-        checked: &Checked,
+        checked: &CheckedCode,
         block: Block,
         number: u32,
         behind: Behind,
@@ -57,27 +58,14 @@ impl Engine {
         frame: &Frame,
     )
         requires frame { IsFrame checked.now frame.now.items }
-        requires may { MayMake block (units_in checked.now frame.now.items) frame.now.items self.old.store }
+        requires may { MayMake block (units_in checked.now frame.now.items)
+            frame.now.items self.old.store }
         ensures { self.new ≡ with_task block number priority behind
             (units_in checked.now frame.now.items) frame.now.items self.old }
     {
-        let named = names(checked, frame);
-        self.hold_all(named.as_slice());
+        self.hold_named(naming_words(checked, frame));
         let unit = block.unit();
-        self.records.make(
-            block,
-            Record {
-                task: number,
-                number,
-                priority,
-                references: 2,
-                outcome: None,
-                cut: behind.cut,
-                first: None,
-                next: None,
-                length: 0,
-            },
-        );
+        self.records.make(block, number, priority, behind.cut);
         self.records.store(unit, frame);
     }
 
@@ -85,7 +73,7 @@ impl Engine {
     /// start, and the running task goes on.
     pub fn place(
         &mut self,
-        checked: &Checked,
+        checked: &CheckedCode,
         frame: &mut Frame,
         to: u16,
         block: Block,
@@ -102,7 +90,8 @@ impl Engine {
             first.now.items (unit_in checked.now frame.old.items to) self.old }
         ensures frame { IsFrame checked.now frame.new.items }
         ensures named { IsNamed checked.now to block.unit frame.old.items frame.new.items }
-        ensures placed { self.new ≡ placed block number priority behind (units_in checked.now first.now.items)
+        ensures placed { self.new ≡ placed block number priority behind
+            (units_in checked.now first.now.items)
             first.now.items (unit_in checked.now frame.old.items to) self.old }
     {
         let new = block.unit();
@@ -111,13 +100,24 @@ impl Engine {
         self.arrive(new, behind);
     }
 
-    /// These are named once more.
-    fn hold_all(&mut self, units: &[u64])
-        requires { MayHoldAll units.now self.old.store }
-        ensures { self.new ≡ with_store self.old (held_all units.now self.old.store) }
+    /// The tasks that these words name are named once more.
+    fn hold_named(&mut self, words: &[u64])
+        requires { MayHoldAll (filter_map unit_named words.now) self.old.store }
+        ensures { self.new ≡ with_store self.old
+            (held_all (filter_map unit_named words.now) self.old.store) }
     {
-        'units: for unit in units {
-            self.hold(*unit);
+        'words: for word in words {
+            self.hold_if(unit_of(*word));
+        }
+    }
+
+    /// The task that a word names, if any, is named once more.
+    fn hold_if(&mut self, unit: Option<u64>)
+        requires { MayHoldIf unit self.old.store }
+        ensures { self.new ≡ with_store self.old (held_if unit self.old.store) }
+    {
+        if let Some(unit) = unit {
+            self.hold(unit);
         }
     }
 
@@ -132,7 +132,7 @@ impl Engine {
 
     /// A variable of the running task names the task in a block, which was held for it, and the
     /// task goes on.
-    pub fn name(&mut self, checked: &Checked, frame: &mut Frame, to: u16, unit: u32)
+    pub fn name(&mut self, checked: &CheckedCode, frame: &mut Frame, to: u16, unit: u32)
         requires frame { IsFrame checked.now frame.old.items }
         requires variable { HasSort checked.now Future to frame.old.items }
         requires passes { MayPass checked.now (body_of checked.now frame.old.items) }

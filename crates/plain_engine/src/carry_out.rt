@@ -13,17 +13,18 @@ ghost use Rattle.plain_engine.specs.Asking.{IsKnown};
 ghost use Rattle.plain_state.specs.Laws.{unit_in_if};
 
 use crate::ask::Answer;
+use crate::desk::Desk;
 use crate::engine::Engine;
 use frame_code::{
-    Act, AllRequest, Frame, SpawnRequest, class_of, entry_frame, future, give, lift, members_class,
-    members_frame, pass_on, passed_by, units_named,
+    Act, AllRequest, CheckedCode, Frame, SpawnRequest, class_of, entry_frame, future, give, lift,
+    members_class, members_frame, pass_on, passed_by, units_named,
 };
 use plain_state::Outcome;
 use record_core::CutTag;
-use task_syntax::{Checked, Priority, Value};
+use task_syntax::{Priority, Value};
 
 /// The unit that a variable names, if one is given and it names one.
-fn named_if(checked: &Checked, frame: &Frame, x: Option<u16>) -> Option<u64>
+fn named_if(checked: &CheckedCode, frame: &Frame, x: Option<u16>) -> Option<u64>
     requires frame { IsFrame checked.now frame.now.items }
     requires variable { IfSome x (λ at. HasSort checked.now Future at frame.now.items) }
     ensures { result ≡ unit_in_if (body_of checked.now frame.now.items) x }
@@ -46,41 +47,48 @@ fn first_of(units: &[u64]) -> Option<u64>
 
 impl Engine {
     /// Carries out what the running task asks for, and tells whether it goes on.
-    pub fn carry_out(&mut self, checked: &Checked, unit: u32, frame: &mut Frame, act: Act) -> bool
-        requires { MayCarryOut checked.now self.old unit frame.old.items act }
-        ensures steps { CarriesOut checked.now self.old unit frame.old.items act result self.new
+    pub fn carry_out(
+        &mut self,
+        checked: &CheckedCode,
+        unit: u32,
+        frame: &mut Frame,
+        desk: &mut Desk,
+        act: &Act,
+    ) -> bool
+        requires { MayCarryOut checked.now self.old unit frame.old.items act.now }
+        ensures steps { CarriesOut checked.now self.old unit frame.old.items act.now result self.new
             frame.new.items }
         ensures fewer { TakesLine checked.now result frame.old.items frame.new.items }
     {
         match act {
-            Act::Spawn(request) => self.spawn(checked, unit, frame, &request),
-            Act::All(request) => self.gather(checked, unit, frame, &request),
+            Act::Spawn(request) => self.spawn(checked, unit, frame, desk, request),
+            Act::All(request) => self.gather(checked, unit, frame, desk, request),
             Act::Copy { to, of } => {
-                self.copy(checked, frame, to, of);
+                self.copy(checked, frame, *to, *of);
                 true
             }
             Act::Drop { future } => {
-                self.drop_future(checked, frame, future);
+                self.drop_future(checked, frame, *future);
                 true
             }
-            Act::NeedsValue { future } => self.read(checked, unit, frame, future),
+            Act::NeedsValue { future } => self.read(checked, unit, frame, *future),
             Act::Again(request) => {
-                self.respawn(checked, unit, frame, request);
+                self.respawn(checked, unit, frame, desk, *request);
                 false
             }
             Act::Done(number) => {
-                self.gives(checked, unit, frame, Value::Number(number));
+                self.gives(checked, unit, frame, Value::Number(*number));
                 false
             }
             Act::Trap(trap) => {
-                self.gives(checked, unit, frame, Value::Trapped(trap));
+                self.gives(checked, unit, frame, Value::Trapped(*trap));
                 false
             }
         }
     }
 
     // One variable names the task that another names.
-    fn copy(&mut self, checked: &Checked, frame: &mut Frame, to: u16, of: u16)
+    fn copy(&mut self, checked: &CheckedCode, frame: &mut Frame, to: u16, of: u16)
         requires { MayCarryOutAny checked.now self.old frame.old.items (act.Copy to of) }
         ensures steps { CarriesOutAny checked.now self.old frame.old.items (act.Copy to of) self.new
             frame.new.items }
@@ -94,7 +102,7 @@ impl Engine {
     }
 
     // A variable names no task any more.
-    fn drop_future(&mut self, checked: &Checked, frame: &mut Frame, x: u16)
+    fn drop_future(&mut self, checked: &CheckedCode, frame: &mut Frame, x: u16)
         requires { MayCarryOutAny checked.now self.old frame.old.items (act.Drop x) }
         ensures steps { CarriesOutAny checked.now self.old frame.old.items (act.Drop x) self.new
             frame.new.items }
@@ -106,9 +114,10 @@ impl Engine {
     }
 
     // The running task reads what another gave. A trap ends it.
-    fn read(&mut self, checked: &Checked, unit: u32, frame: &mut Frame, x: u16) -> bool
+    fn read(&mut self, checked: &CheckedCode, unit: u32, frame: &mut Frame, x: u16) -> bool
         requires { MayCarryOut checked.now self.old unit frame.old.items (act.NeedsValue x) }
-        ensures steps { CarriesOut checked.now self.old unit frame.old.items (act.NeedsValue x) result
+        ensures steps { CarriesOut checked.now self.old unit frame.old.items
+            (act.NeedsValue x) result
             self.new frame.new.items }
         ensures fewer { TakesLine checked.now result frame.old.items frame.new.items }
     {
@@ -125,7 +134,7 @@ impl Engine {
     }
 
     // What the task gave that a variable names.
-    fn value(&self, checked: &Checked, frame: &Frame, x: u16) -> Value
+    fn value(&self, checked: &CheckedCode, frame: &Frame, x: u16) -> Value
         requires frame { IsFrame checked.now frame.now.items }
         requires value { MayReadValue checked.now self.now frame.now.items x }
         ensures { IsValueRead checked.now self.now frame.now.items x result }
@@ -143,20 +152,27 @@ impl Engine {
     // The running task spawns another.
     fn spawn(
         &mut self,
-        checked: &Checked,
+        checked: &CheckedCode,
         unit: u32,
         frame: &mut Frame,
+        desk: &mut Desk,
         request: &SpawnRequest,
     ) -> bool
         requires { MayCarryOut checked.now self.old unit frame.old.items (act.Spawn request.now) }
-        ensures steps { CarriesOut checked.now self.old unit frame.old.items (act.Spawn request.now) result
+        ensures steps { CarriesOut checked.now self.old unit frame.old.items
+            (act.Spawn request.now) result
             self.new frame.new.items }
         ensures fewer { TakesLine checked.now result frame.old.items frame.new.items }
     {
         let class = class_of(checked, request.kind);
         let after = named_if(checked, frame, request.behind);
-        let passed = passed_by(checked, frame, request);
-        let first = entry_frame(checked, request.kind, passed.as_slice());
+        passed_by(checked, frame, request, &mut desk.passed);
+        entry_frame(
+            checked,
+            request.kind,
+            desk.passed.as_slice(),
+            &mut desk.first,
+        );
         self.spawn_new(
             checked,
             unit,
@@ -166,20 +182,22 @@ impl Engine {
             request.priority,
             request.retry,
             request.to,
-            &first,
+            &desk.first,
         )
     }
 
     // The running task spawns an aggregate.
     fn gather(
         &mut self,
-        checked: &Checked,
+        checked: &CheckedCode,
         unit: u32,
         frame: &mut Frame,
+        desk: &mut Desk,
         request: &AllRequest,
     ) -> bool
         requires { MayCarryOut checked.now self.old unit frame.old.items (act.All request.now) }
-        ensures steps { CarriesOut checked.now self.old unit frame.old.items (act.All request.now) result
+        ensures steps { CarriesOut checked.now self.old unit frame.old.items
+            (act.All request.now) result
             self.new frame.new.items }
         ensures fewer { TakesLine checked.now result frame.old.items frame.new.items }
     {
@@ -187,7 +205,7 @@ impl Engine {
         let members = units_named(checked, frame, request.members.as_slice());
         let class = members_class(members.as_slice().len() as u8);
         let after = first_of(members.as_slice());
-        let first = members_frame(members.as_slice());
+        members_frame(members.as_slice(), &mut desk.first);
         self.spawn_new(
             checked,
             unit,
@@ -197,14 +215,14 @@ impl Engine {
             request.priority,
             request.retry,
             request.to,
-            &first,
+            &desk.first,
         )
     }
 
     // The running task asks for a new one, of a class, behind a task, with a first frame.
     fn spawn_new(
         &mut self,
-        checked: &Checked,
+        checked: &CheckedCode,
         unit: u32,
         frame: &mut Frame,
         class: u8,
@@ -241,7 +259,7 @@ impl Engine {
     }
 
     // The running task was refused a new one. After a null answer it may try again later.
-    fn refused(&mut self, checked: &Checked, unit: u32, frame: &Frame, tag: CutTag, retry: bool)
+    fn refused(&mut self, checked: &CheckedCode, unit: u32, frame: &Frame, tag: CutTag, retry: bool)
         requires frame { IsFrame checked.now frame.now.items }
         requires refused { MayBeRefused checked.now self.old unit frame.now.items tag retry }
         ensures { EndsRefused checked.now self.old unit frame.now.items tag retry self.new }

@@ -10,6 +10,7 @@
 mod arrive;
 mod ask;
 mod carry_out;
+mod desk;
 mod end;
 mod engine;
 mod finish;

@@ -14,19 +14,21 @@ ghost use Rattle.plain_engine.specs.Going.{CarriesOut, MayBeBehindNext};
 ghost use Rattle.plain_engine.specs.Going.{MayCarryOut, PriorityIs};
 
 use crate::arrive::behind_nothing;
+use crate::desk::Desk;
 use crate::engine::Engine;
-use frame_code::{Frame, RespawnRequest, enter_held, future, is_aggregate, member};
+use frame_code::{CheckedCode, Frame, RespawnRequest, enter_held, future, is_aggregate, member};
 use plain_state::Behind;
 use record_core::CutTag;
-use task_syntax::{Checked, Priority};
+use task_syntax::Priority;
 
 impl Engine {
     /// What a task is to be behind that names it by a variable, if by any.
-    pub fn behind_variable(&self, checked: &Checked, frame: &Frame, x: Option<u16>) -> Behind
+    pub fn behind_variable(&self, checked: &CheckedCode, frame: &Frame, x: Option<u16>) -> Behind
         requires frame { IsFrame checked.now frame.now.items }
         requires variable { IfSome x (λ at. HasSort checked.now Future at frame.now.items) }
         requires known { IsKnown self.now (unit_in_if (body_of checked.now frame.now.items) x) }
-        ensures { result ≡ behind_at self.now.store (unit_in_if (body_of checked.now frame.now.items) x) }
+        ensures { result ≡ behind_at self.now.store
+            (unit_in_if (body_of checked.now frame.now.items) x) }
     {
         match x {
             None => behind_nothing(),
@@ -35,11 +37,12 @@ impl Engine {
     }
 
     // What the running task is to be behind next: of an aggregate, a member.
-    fn behind_next(&self, checked: &Checked, frame: &Frame, x: Option<u16>) -> Behind
+    fn behind_next(&self, checked: &CheckedCode, frame: &Frame, x: Option<u16>) -> Behind
         requires frame { IsFrame checked.now frame.now.items }
         requires next { MayBeBehindNext checked.now frame.now.items x }
         requires known { IsKnown self.now (respawn_unit (body_of checked.now frame.now.items) x) }
-        ensures { result ≡ behind_at self.now.store (respawn_unit (body_of checked.now frame.now.items) x) }
+        ensures { result ≡ behind_at self.now.store
+            (respawn_unit (body_of checked.now frame.now.items) x) }
     {
         match x {
             Some(at) if is_aggregate(frame) => self.behind(Some(member(frame, at))),
@@ -50,7 +53,7 @@ impl Engine {
     // An aggregate keeps its priority.
     fn next_priority(
         &self,
-        checked: &Checked,
+        checked: &CheckedCode,
         unit: u32,
         frame: &Frame,
         asked: Priority,
@@ -69,9 +72,10 @@ impl Engine {
     /// The running activation ends, and its task goes on by a further one. At the limit it is cut.
     pub fn respawn(
         &mut self,
-        checked: &Checked,
+        checked: &CheckedCode,
         unit: u32,
         frame: &mut Frame,
+        desk: &mut Desk,
         request: RespawnRequest,
     )
         requires { MayCarryOut checked.now self.old unit frame.old.items (act.Again request) }
@@ -81,8 +85,8 @@ impl Engine {
         let behind = self.behind_next(checked, frame, request.behind);
         let priority = self.next_priority(checked, unit, frame, request.priority);
         if self.renews(unit, behind, priority) {
-            let given_up = enter_held(checked, frame, request.target);
-            self.go_on(unit, frame, behind, given_up.as_slice());
+            enter_held(checked, frame, request.target, &mut desk.given_up);
+            self.go_on(unit, frame, behind, desk.given_up.as_slice());
         } else {
             self.refuse(checked, unit, frame, CutTag::Limit);
         }
@@ -100,7 +104,7 @@ impl Engine {
 
     /// The running activation ends, and its task tries the same line again by a further one, with
     /// low priority. At the limit it is cut.
-    pub fn retry(&mut self, checked: &Checked, unit: u32, frame: &Frame)
+    pub fn retry(&mut self, checked: &CheckedCode, unit: u32, frame: &Frame)
         requires frame { IsFrame checked.now frame.now.items }
         requires retries { MayRetry checked.now self.old unit frame.now.items }
         ensures { Retries checked.now self.old unit frame.now.items self.new }

@@ -10,10 +10,10 @@ ghost use Rattle.plain_engine.specs.Roots.{IsPassedFor, IsPassedTo, MayAskRoot, 
 use crate::ask::Answer;
 use crate::engine::{Engine, put};
 use arrayvec::ArrayVec;
-use frame_code::{Passed, class_of, entry_frame};
+use frame_code::{CheckedCode, Frame, Passed, class_of, entry_frame};
 use plain_state::RootState;
 use record_core::CutTag;
-use task_syntax::{Checked, Root, RootArgument};
+use task_syntax::{Root, RootArgument};
 
 /// How a root was cut that has no task.
 fn cut_without_task(root: RootState) -> Option<CutTag>
@@ -28,7 +28,7 @@ fn cut_without_task(root: RootState) -> Option<CutTag>
 
 impl Engine {
     /// Asks for a root. One that names an earlier root without a task is skipped.
-    pub fn ask_root(&mut self, checked: &Checked, root: &Root)
+    pub fn ask_root(&mut self, checked: &CheckedCode, root: &Root)
         requires { MayAskRoot checked.now self.old root.now }
         ensures asked { IsAskedFor checked.now self.old root.now self.new }
         ensures more { length self.new.roots ≡ length self.old.roots + 1 }
@@ -38,7 +38,7 @@ impl Engine {
     }
 
     // What becomes of a root that is asked for.
-    fn root_state(&mut self, checked: &Checked, root: &Root) -> RootState
+    fn root_state(&mut self, checked: &CheckedCode, root: &Root) -> RootState
         requires { MayAskRoot checked.now self.old root.now }
         ensures { RootIs checked.now self.old root.now self.new result }
     {
@@ -49,7 +49,7 @@ impl Engine {
     }
 
     // Asks for a root whose earlier roots have tasks.
-    fn spawn_root(&mut self, checked: &Checked, root: &Root) -> RootState
+    fn spawn_root(&mut self, checked: &CheckedCode, root: &Root) -> RootState
         requires asked { MayAskRoot checked.now self.old root.now }
         requires tasks { NamesTasks self.old root.now }
         ensures { RootIs checked.now self.old root.now self.new result }
@@ -60,7 +60,8 @@ impl Engine {
         match self.ask(class, behind.task) {
             Answer::Given(block, number) => {
                 let passed = self.passed_to(root);
-                let frame = entry_frame(checked, root.kind, passed.as_slice());
+                let mut frame = Frame::new();
+                entry_frame(checked, root.kind, passed.as_slice(), &mut frame);
                 let unit = block.unit();
                 self.make(checked, block, number, behind, root.priority, &frame);
                 self.arrive(unit, behind);

@@ -6,15 +6,23 @@ ghost use Rattle.plain_engine.specs.Ending.{EndsCut, MayBeCut};
 ghost use Rattle.plain_engine.specs.Going.{IsIdle, IsRunning, MayStart, RunsToItsEnd};
 ghost use Rattle.plain_engine.specs.Going.{TakesNext, TakesStart, Turns, started};
 
+use crate::desk::Desk;
 use crate::engine::Engine;
-use frame_code::{Frame, advance};
+use frame_code::{CheckedCode, Frame, advance};
 use plain_state::{Outcome, Record};
 use record_core::{Cause, CutTag};
-use task_syntax::{Checked, Columns};
+use task_syntax::Columns;
 
 impl Engine {
-    /// Starts the next activation that may start, if there is one, and runs it to its end.
-    pub fn turn(&mut self, checked: &Checked, columns: &Columns) -> bool
+    /// Starts the next activation that may start, if there is one, and runs it to its end. What is
+    /// worked on stands in a frame and on a desk that are used again at each turn.
+    pub fn turn(
+        &mut self,
+        checked: &CheckedCode,
+        columns: &Columns,
+        frame: &mut Frame,
+        desk: &mut Desk,
+    ) -> bool
         requires { IsIdle checked.now columns.now self.old }
         ensures turns { Turns checked.now columns.now self.old result self.new }
         ensures fewer { TakesStart result self.old self.new }
@@ -23,10 +31,10 @@ impl Engine {
             return false;
         };
         let record = self.begin(unit);
-        let frame = self.frame(unit);
+        self.frame(unit, frame);
         match record.cut {
-            Some(tag) => self.cut(checked, unit, &frame, record.number, tag),
-            None => self.run(checked, columns, unit, frame),
+            Some(tag) => self.cut(checked, unit, frame, record.number, tag),
+            None => self.run(checked, columns, unit, frame, desk),
         }
         true
     }
@@ -49,16 +57,16 @@ impl Engine {
         record
     }
 
-    // The frame of the task in a block.
-    fn frame(&self, unit: u32) -> Frame
+    // Reads the frame of the task in a block.
+    fn frame(&self, unit: u32, frame: &mut Frame)
         requires { HasFrame self.now.store unit }
-        ensures { result.items ≡ frame_at self.now.store unit }
+        ensures { frame.new.items ≡ frame_at self.now.store unit }
     {
-        self.records.frame(unit)
+        self.records.read(unit, frame);
     }
 
     // The started task is cut, as the task was that it is behind.
-    fn cut(&mut self, checked: &Checked, unit: u32, frame: &Frame, number: u32, tag: CutTag)
+    fn cut(&mut self, checked: &CheckedCode, unit: u32, frame: &Frame, number: u32, tag: CutTag)
         requires frame { IsFrame checked.now frame.now.items }
         requires cut { MayBeCut checked.now self.old unit frame.now.items number tag }
         ensures { EndsCut checked.now self.old unit frame.now.items number tag self.new }
@@ -70,14 +78,20 @@ impl Engine {
     }
 
     // The started task runs until its activation ends.
-    fn run(&mut self, checked: &Checked, columns: &Columns, unit: u32, frame: Frame)
-        requires { IsRunning checked.now columns.now self.old unit frame.items }
-        ensures { RunsToItsEnd checked.now columns.now self.old unit frame.items self.new }
+    fn run(
+        &mut self,
+        checked: &CheckedCode,
+        columns: &Columns,
+        unit: u32,
+        frame: &mut Frame,
+        desk: &mut Desk,
+    )
+        requires { IsRunning checked.now columns.now self.old unit frame.old.items }
+        ensures { RunsToItsEnd checked.now columns.now self.old unit frame.old.items self.new }
     {
-        let mut frame = frame;
         'acts: loop {
-            let act = advance(checked, columns, &mut frame);
-            if !self.carry_out(checked, unit, &mut frame, act) {
+            let act = advance(checked, columns, frame);
+            if !self.carry_out(checked, unit, frame, desk, &act) {
                 return;
             }
         }

@@ -1,5 +1,5 @@
 -- A block that the pool gives is given by the store.
-use Rattle.std.proofs.Common.{◌≡◌, ℕ, Option, Some, None, List, IfSome, refl}
+use Rattle.std.proofs.Common.{ℕ, Option, Some, None, List, IfSome, refl}
 use Rattle.pool_core.specs.Blocks.{BlockState}
 use Rattle.pool_core.specs.Pool.{PoolState, Gives, Adds}
 use Rattle.plain_state.specs.declared.record.Record.{Record}

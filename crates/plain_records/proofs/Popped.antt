@@ -1,9 +1,9 @@
 -- What is popped is the first of the highest queue that has one.
-use Rattle.std.proofs.Common.{◌≡◌, ℕ, zero, suc, ◌+◌, Option, Some, None, List, [], ◌∷◌, drop, slice_get, refl, sym, ap, subst, ◌∙◌}
+use Rattle.std.proofs.Common.{◌≡◌, ℕ, Option, Some, None, List, [], ◌∷◌, drop, slice_get, refl, sym, ap, ◌∙◌}
 use Rattle.std.proofs.lemmas.Option.{none-some, same_Some}
 use Rattle.circular_buffer.specs.Buffer.{Buffer, buffer}
-use Rattle.run_model.specs.State.{Queues, next_queued, first_queued}
-use Rattle.plain_records.specs.Ready.{ReadyState, Takes, ready_of, with_queues}
+use Rattle.run_model.specs.State.{first_queued}
+use Rattle.plain_records.specs.Ready.{Takes, ready_of}
 
 -- the first of the high queue
 high_items : (items : List ℕ) (capacity : ℕ) (regular low : Buffer ℕ) (unit : ℕ) → Some unit ≡ slice_get items 0

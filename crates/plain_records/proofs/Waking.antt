@@ -1,5 +1,5 @@
 -- A waiter joins its queue: what is left of the list may still join.
-use Rattle.std.proofs.Common.{◌≡◌, ℕ, zero, suc, ◌+◌, ◌<◌, ◌≤◌, Option, Some, None, List, [], ◌∷◌, ◌++◌, length, slice_get, slice_set, refl, sym, ap, subst, ◌∙◌, arith}
+use Rattle.std.proofs.Common.{◌≡◌, ℕ, zero, suc, ◌<◌, Option, Some, None, List, [], ◌∷◌, ◌++◌, length, slice_get, slice_set, refl, sym, ap, subst, ◌∙◌, arith}
 use Rattle.std.proofs.lemmas.Option.{none-some, same_Some}
 use Rattle.task_syntax.specs.declared.value.Priority.{Priority}
 use Rattle.task_syntax.specs.declared.value.Priority.TheVariants.{High, Regular, Low}
@@ -7,7 +7,7 @@ use Rattle.record_core.specs.declared.rows.CutTag.{CutTag}
 use Rattle.run_model.specs.State.{Queues, queued}
 use Rattle.plain_state.specs.declared.record.Record.{Record}
 use Rattle.plain_state.specs.declared.record.Outcome.{Outcome}
-use Rattle.plain_state.specs.Store.{StoreState, Chained, HasUnit, HasPlaces, changed, changed_at, changed_in, with_cut, with_outcome, first_in, MayComplete, queued_at, queued_count, woken, priority_in}
+use Rattle.plain_state.specs.Store.{StoreState, Chained, HasUnit, HasPlaces, changed, changed_at, changed_in, with_cut, with_outcome, first_in, MayComplete, queued_count, woken, priority_in}
 use Rattle.plain_records.specs.Taken.{IsNextOf, MayWake}
 
 -- the list has as many members after one was set

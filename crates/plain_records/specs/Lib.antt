@@ -1,3 +1,4 @@
+pub mod Slots
 pub mod Ready
 pub mod StoreView
 pub mod Allocated

@@ -5,17 +5,14 @@ ghost use Rattle.plain_records.specs.Allocated.{HasFrame, with_written};
 use crate::store::Records;
 use frame_code::Frame;
 
-/// So many of the words, from a place on.
-fn words_at(words: &[u64], at: usize, count: usize) -> Frame
+/// Reads so many of the words, from a place on, into a frame.
+fn read_at(words: &[u64], at: usize, count: usize, frame: &mut Frame)
     requires within { at + count ≤ length words.now }
     requires few { count ≤ 64 }
-    ensures { result.items ≡ take count (drop at words.now) }
+    ensures { frame.new.items ≡ take count (drop at words.now) }
 {
-    let mut frame = Frame::new();
-    'words: for place in at..at + count {
-        frame.push(words[place]);
-    }
-    frame
+    frame.clear();
+    let _fits = frame.try_extend_from_slice(&words[at..at + count]);
 }
 
 /// Writes words over those from a place on.
@@ -27,13 +24,13 @@ fn write_at(words: &mut [u64], at: usize, new: &[u64])
 }
 
 impl Records {
-    /// The frame of a task.
-    pub fn frame(&self, unit: u32) -> Frame
+    /// Reads the frame of a task.
+    pub fn read(&self, unit: u32, frame: &mut Frame)
         requires { HasFrame self.now unit }
-        ensures { result.items ≡ frame_at self.now unit }
+        ensures { frame.new.items ≡ frame_at self.now unit }
     {
-        let count = self.records[unit as usize].length as usize;
-        words_at(self.words.as_slice(), unit as usize * 8, count)
+        let count = self.records[unit as usize].length() as usize;
+        read_at(self.words.as_slice(), unit as usize * 8, count, frame);
     }
 
     /// Keeps the frame of a task.
@@ -51,7 +48,7 @@ impl Records {
         requires { HasUnit self.old unit }
         ensures { self.new ≡ changed (with_length length) unit self.old }
     {
-        self.records[unit as usize].length = length;
+        self.records[unit as usize].set_length(length);
     }
 
     // Writes words over those from a place on.

@@ -8,6 +8,7 @@ mod frames;
 mod queues;
 mod ready;
 mod references;
+mod slot;
 mod store;
 
 pub use store::Records;

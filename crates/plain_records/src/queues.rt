@@ -24,7 +24,8 @@ impl Records {
         requires place { HasPlaces self.old 1 }
         ensures { self.new ≡ queued_at unit self.old }
     {
-        self.ready.push(self.records[unit as usize].priority, unit);
+        self.ready
+            .push(self.records[unit as usize].priority(), unit);
     }
 
     /// Takes the next task out of the highest queue that has one.
@@ -40,9 +41,10 @@ impl Records {
         requires target { HasUnit self.old target }
         ensures { self.new ≡ linked waiter target self.old }
     {
-        let first = self.records[target as usize].first;
-        self.records[waiter as usize].next = first;
-        self.records[target as usize].first = Some(waiter);
+        self.keeps();
+        let first = self.records[target as usize].first();
+        self.records[waiter as usize].set_next(first);
+        self.records[target as usize].set_first(waiter);
     }
 
     /// A further activation of the task was accepted. `cut` tells how the task was cut that it is
@@ -51,10 +53,7 @@ impl Records {
         requires { HasUnit self.old unit }
         ensures { self.new ≡ renewed unit number priority cut self.old }
     {
-        let known = &mut self.records[unit as usize];
-        known.number = number;
-        known.priority = priority;
-        known.cut = cut;
+        self.records[unit as usize].renew(number, priority, cut);
     }
 
     /// The task has ended. Its waiters join their queues, the one that joined last in front.
@@ -74,9 +73,8 @@ impl Records {
         ensures first { result ≡ first_in (slice_get self.old.records unit) }
     {
         let known = &mut self.records[unit as usize];
-        let first = known.first;
-        known.first = None;
-        known.outcome = Some(outcome);
+        let first = known.first();
+        known.end(outcome);
         first
     }
 
@@ -100,8 +98,8 @@ impl Records {
         ensures next { IsNextOf self.old waiter result }
     {
         let known = &mut self.records[waiter as usize];
-        known.cut = cut;
-        let next = known.next;
+        known.set_cut(cut);
+        let next = known.next();
         self.queue(waiter);
         next
     }

@@ -1,11 +1,14 @@
 ghost use Rattle.std.specs.Prelude.{◌≡◌, ◌↔◌, ◌≤◌, IfSome, IfNone, IsNone, None, slice_set};
 ghost use Rattle.pool_core.specs.Pool.{HasNoRoom, IsOut};
 ghost use Rattle.plain_state.specs.Store.{HasUnit, MayHold, MayLetGo, held, let_go, made, without_block};
+ghost use Rattle.plain_state.specs.Moves.{new_record};
 ghost use Rattle.plain_records.specs.Allocated.{Allocates, IsGivenBack, IsReleasedFrom, pool_without};
 
+use crate::slot::Slot;
 use crate::store::Records;
-use plain_state::Record;
 use pool_core::{Block, PlainPool};
+use record_core::CutTag;
+use task_syntax::Priority;
 
 impl Records {
     /// Gives a block of a class, if the pool has room for one.
@@ -26,13 +29,13 @@ impl Records {
         self.pool.release(block);
     }
 
-    /// Makes the record of a new task in its block.
-    pub fn make(&mut self, block: Block, known: Record)
+    /// Makes the record of a new task in its block: it is under way, and about to be named once.
+    pub fn make(&mut self, block: Block, number: u32, priority: Priority, cut: Option<CutTag>)
         requires { HasUnit self.old block.unit }
-        ensures { self.new ≡ made block known self.old }
+        ensures { self.new ≡ made block (new_record number priority cut) self.old }
     {
         let unit = block.unit() as usize;
-        self.records[unit] = known;
+        self.records[unit] = Slot::new(number, priority, cut);
         self.blocks[unit] = Some(block);
     }
 
@@ -41,7 +44,7 @@ impl Records {
         requires { MayHold unit self.old }
         ensures { self.new ≡ held unit self.old }
     {
-        self.records[unit as usize].references += 1;
+        self.records[unit as usize].hold();
     }
 
     /// One less names it, or it has ended. Where nothing else refers to it, its block goes back to
@@ -51,8 +54,8 @@ impl Records {
         ensures { self.new ≡ let_go unit self.old }
     {
         let known = &mut self.records[unit as usize];
-        known.references -= 1;
-        if known.references == 0 {
+        known.let_go();
+        if known.references() == 0 {
             give_back(&mut self.pool, &mut self.blocks, unit);
         }
     }

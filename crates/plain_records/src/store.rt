@@ -4,12 +4,12 @@ ghost use Rattle.plain_state.specs.Store.{HasUnit, no_record, out_of_class, unus
 ghost use Rattle.plain_records.specs.Allocated.{out_before};
 
 use crate::ready::Ready;
+use crate::slot::Slot;
 use kt_words::{Geometry, SuperWord};
 use plain_state::Record;
 use pool_core::{Block, PlainPool};
 use std::alloc::{AllocError, Global};
 use std::marker::Model;
-use task_syntax::Priority;
 
 /// The records of a run, by the first unit of their block, with the pool that the blocks are from,
 /// the frames, 8 words to a unit, and a queue for each priority of the activations that may start.
@@ -18,7 +18,7 @@ pub struct Records {
     pub(crate) superblocks: u32,
     pub(crate) pool: PlainPool,
     pub(crate) blocks: Vec<Option<Block>>,
-    pub(crate) records: Vec<Record>,
+    pub(crate) records: Vec<Slot>,
     pub(crate) words: Vec<u64>,
     pub(crate) ready: Ready,
 }
@@ -35,21 +35,15 @@ impl Model for Records {
         r.words.items r.ready };
 }
 
-/// What was never written is not read.
-fn unused_record() -> Record
-    ensures { result ≡ no_record }
+/// A record for each unit that was never written.
+fn unused_slots(alloc: Global, count: usize) -> Result<Vec<Slot>, AllocError>
+    ensures { IfOk result (λ slots. slots.items ≡ replicate count no_record) }
 {
-    Record {
-        task: 0,
-        number: 0,
-        priority: Priority::Regular,
-        references: 0,
-        outcome: None,
-        cut: None,
-        first: None,
-        next: None,
-        length: 0,
+    let mut slots = Vec::with_capacity(alloc, count)?;
+    'units: for _ in 0..count {
+        slots.push(Slot::unused())?;
     }
+    Ok(slots)
 }
 
 /// No block for each unit.
@@ -71,7 +65,7 @@ impl Records {
         let units = geometry.superblocks as usize * geometry.units as usize;
         let pool = PlainPool::new(alloc, geometry)?;
         let blocks = no_blocks(alloc, units)?;
-        let records = vec![in alloc; unused_record(); units]?;
+        let records = unused_slots(alloc, units)?;
         let words = vec![in alloc; 0; units * 8]?;
         let ready = Ready::new(alloc, units)?;
         Ok(Records {
@@ -89,7 +83,7 @@ impl Records {
         requires { HasUnit self.now unit }
         ensures { slice_get self.now.records unit ≡ Some result }
     {
-        self.records[unit as usize]
+        self.records[unit as usize].record()
     }
 
     /// Class, count and ever of a superblock of the pool.
@@ -139,7 +133,8 @@ fn out_of(pool: &PlainPool, superblocks: u32, class: u8) -> u32
 /// How many blocks of a class are out of a superblock.
 fn out_in(pool: &PlainPool, superblock: u32, class: u8) -> u32
     requires { superblock < length pool.now.superblocks }
-    ensures count { out_before pool.now class (superblock + 1) ≡ out_before pool.now class superblock + result }
+    ensures count { out_before pool.now class (superblock + 1)
+        ≡ out_before pool.now class superblock + result }
     ensures few { result ≤ 512 }
 {
     if pool.class(superblock) == class {

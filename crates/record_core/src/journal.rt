@@ -2,6 +2,7 @@ ghost use Rattle.std.specs.Prelude.{◌≡◌, ◌↔◌, ℕ, ◌<◌, ◌≤�
 ghost use Rattle.record_core.specs.Numbers.{by_number, HasTask};
 ghost use Rattle.record_core.specs.Journal.{JournalState, empty_journal, next_number, with_accepted, with_begun, with_finished, IsJournal, IsUnderWay, MayBegin, MayCause};
 
+use crate::packed::{PackedActivation, PackedTask};
 use crate::rows::{ActivationRow, Cause, TaskRow};
 use std::alloc::Global;
 use std::marker::Model;
@@ -11,8 +12,8 @@ use task_syntax::Memory;
 /// tasks were cut.
 #[derive(Drop)]
 pub struct PlainJournal {
-    rows: Vec<ActivationRow>,
-    tasks: Vec<TaskRow>,
+    rows: Vec<PackedActivation>,
+    tasks: Vec<PackedTask>,
     stamps: u64,
     limit: u64,
 }
@@ -31,7 +32,7 @@ impl Model for PlainJournal {
 }
 
 impl PlainJournal {
-    /// An empty journal with memory for 1 to 4,000,000 activations, 56 bytes for each. No later call takes memory.
+    /// An empty journal with memory for 1 to 4,000,000 activations, 24 bytes for each. No later call takes memory.
     pub fn new(alloc: Global, limit: u64) -> Result<PlainJournal, Memory>
         requires some { 1 ≤ limit }
         requires few { limit ≤ 4000000 }
@@ -64,15 +65,8 @@ impl PlainJournal {
         }
         let number = self.rows.len() as u32 + 1;
         let task = task.unwrap_or(number);
-        let _fits = self.rows.push(ActivationRow {
-            task,
-            after,
-            start: None,
-        });
-        let _fits = self.tasks.push(TaskRow {
-            finish: None,
-            cause: Cause::Clear,
-        });
+        let _fits = self.rows.push(PackedActivation::new(task, after));
+        let _fits = self.tasks.push(PackedTask::new());
         Some(number)
     }
 
@@ -84,7 +78,7 @@ impl PlainJournal {
     {
         self.stamps += 1;
         let row = &mut self.rows[number as usize - 1];
-        row.start = Some(self.stamps);
+        row.begin(self.stamps);
     }
 
     /// Finishes a task, with the next stamp.
@@ -95,10 +89,7 @@ impl PlainJournal {
         ensures kept { IsJournal self.new }
     {
         self.stamps += 1;
-        self.tasks[task as usize - 1] = TaskRow {
-            finish: Some(self.stamps),
-            cause,
-        };
+        self.tasks[task as usize - 1] = PackedTask::finished(self.stamps, cause);
     }
 
     /// Does nothing. Call it for the invariant of a journal that was handed in.
@@ -121,7 +112,7 @@ impl PlainJournal {
         requires within { number ≤ length self.now.rows }
         ensures { by_number self.now.rows number ≡ Some result }
     {
-        self.rows[number as usize - 1]
+        self.rows[number as usize - 1].row()
     }
 
     /// A task, by the number of its first activation.
@@ -129,6 +120,6 @@ impl PlainJournal {
         requires { HasTask self.now.rows number }
         ensures { by_number self.now.tasks number ≡ Some result }
     {
-        self.tasks[number as usize - 1]
+        self.tasks[number as usize - 1].row()
     }
 }

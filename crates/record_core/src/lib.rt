@@ -12,6 +12,7 @@ mod end_laws;
 mod ended;
 mod journal;
 mod journal_laws;
+mod packed;
 mod rows;
 mod sums_below;
 #[cfg(test)]

@@ -60,5 +60,5 @@ passed-preserved c =
       | in-Future w ↦ put-same p c.args.kind c.args.passed.now (c.passed.x + 1) _ _ _ _ _ _ w.words-is w.number-is w.future-is
           (future-put p c.args.kind c.args.passed.now c.requires.passed c.passed.x c.passed.words c.passed.number c.passed.future c.passed.invariant w.in-Future.unit w.future_word.result
           (there ∙ ap Some w.in-Future.is)
-          (w.future_word.ensures ∙ ap (λ hs. cond (has c.passed.x hs) (Some w.in-Future.unit) None) (w.as_slice-in-Future.ensures ∙ sym holds)))
+          (w.future_word.ensures ∙ ap (λ hs. cond (has c.passed.x hs) (Some w.in-Future.unit) None) (w.as_slice.ensures ∙ sym holds)))
     ]

@@ -21,7 +21,7 @@ returns-clause-given_up c =
     let holds : holds_at p c.unpack.result.kind c.args.target ≡ c.state_at-state.result.now.holds
     = ap (λ (r : Program). holds_at r c.unpack.result.kind c.args.target) (sym c.program.ensures.same)
     ∙ (ap (λ o. holds_in (state_in o c.args.target)) c.kind_at-kind.ensures ∙ ap holds_in c.state_at-state.ensures) in
-    let h = held-of_task p c.args.target old mid c.keep_held.new.words c.as_slice-2.result.now c.keep_held.result (ap (body_of p) same ∙ c.enter.ensures.moved) task
+    let h = held-of_task p c.args.target old mid c.keep_held.new.words c.as_slice-2.result.now c.keep_held.new.given_up (ap (body_of p) same ∙ c.enter.ensures.moved) task
     (subst (λ l. BodyHasWay p (body_of p l)) (sym same) c.enter.ensures.way)
     (c.as_slice-2.ensures ∙ (sym holds ∙ ap (λ k. holds_at p k c.args.target) kind)) c.keep_held.ensures.kept c.keep_held.ensures.parts in
-    parts-among c.keep_held.result (named_in p c.keep_held.new.words) (named_in p old) h.2
+    parts-among c.keep_held.new.given_up (named_in p c.keep_held.new.words) (named_in p old) h.2

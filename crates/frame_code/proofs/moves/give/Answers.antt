@@ -5,7 +5,7 @@ use Rattle.frame_code.specs.Control.{control_at}
 use Rattle.frame_code.specs.Layout.{number_place}
 use Rattle.frame_code.specs.declared.words.Control.{Control}
 use Rattle.frame_code.proofs.Variables.{sort-within}
-use Rattle.frame_code.proofs.PassedFrames.{gives-past, of-read, past-read, next-fits, read-number, read-within, given-clauses, written-next}
+use Rattle.frame_code.proofs.PassedFrames.{of-kind, gives-past, of-read, past-read, next-fits, read-number, read-within, given-clauses, written-next}
 use Rattle.frame_code.proofs.moves.give.Goals as goal
 
 pub number_place-place-requires : goal.number_place-place-requires
@@ -21,7 +21,12 @@ number_place-place-requires c =
     let past = past-read p old line to gives.0 (gives-past p old c.requires.read).1.task of gives.1 in
     let number = read-number p old line c.program.ensures.formed past of to gives.0 0 gives.1 c.requires.frame in
     let within = sort-within c.kind_at-kind.result.now.variables to Number number in
-    omega (arith, within, ap length c.as_slice.ensures)
+    omega (
+      arith,
+      within,
+      ap length (of-kind p c.program.result.now c.unpack-control.result.kind c.kind_at-kind.result.now
+          c.variables.result c.program.ensures.same c.kind_at-kind.ensures c.variables.ensures.same),
+    )
 
 pub offset_bounds-words-place : goal.offset_bounds-words-place
 offset_bounds-words-place c =
@@ -35,7 +40,8 @@ offset_bounds-words-place c =
     c.as_mut_slice-words.ensures.value c.unpack-control.ensures c.kind_at-kind.ensures c.state_at.ensures c.line_at-line.ensures in
     let past = past-read p old line to gives.0 (gives-past p old c.requires.read).1.task of gives.1 in
     let place : c.number_place-place.result ≡ number_place c.kind_at-kind.result.now.variables to
-    = c.number_place-place.ensures ∙ ap (λ vs. number_place vs to) c.as_slice.ensures in
+    = c.number_place-place.ensures ∙ ap (λ vs. number_place vs to) (of-kind p c.program.result.now c.unpack-control.result.kind c.kind_at-kind.result.now
+    c.variables.result c.program.ensures.same c.kind_at-kind.ensures c.variables.ensures.same) in
     let within = read-within p old line c.program.ensures.formed past of to gives.0 0 gives.1 c.requires.frame in
     omega (arith, place, within, c.requires.frame.few)
 
@@ -51,7 +57,8 @@ bounds-words-place c =
     c.as_mut_slice-words.ensures.value c.unpack-control.ensures c.kind_at-kind.ensures c.state_at.ensures c.line_at-line.ensures in
     let past = past-read p old line to gives.0 (gives-past p old c.requires.read).1.task of gives.1 in
     let place : c.number_place-place.result ≡ number_place c.kind_at-kind.result.now.variables to
-    = c.number_place-place.ensures ∙ ap (λ vs. number_place vs to) c.as_slice.ensures in
+    = c.number_place-place.ensures ∙ ap (λ vs. number_place vs to) (of-kind p c.program.result.now c.unpack-control.result.kind c.kind_at-kind.result.now
+    c.variables.result c.program.ensures.same c.kind_at-kind.ensures c.variables.ensures.same) in
     let within = read-within p old line c.program.ensures.formed past of to gives.0 0 gives.1 c.requires.frame in
     omega (arith, place, within, ap length c.as_mut_slice-words.ensures.value)
 
@@ -83,7 +90,8 @@ returns-clause-frame c =
     c.as_mut_slice-words.ensures.value c.unpack-control.ensures c.kind_at-kind.ensures c.state_at.ensures c.line_at-line.ensures in
     let past = past-read p old line to gives.0 (gives-past p old c.requires.read).1.task of gives.1 in
     let place : c.number_place-place.result ≡ number_place c.kind_at-kind.result.now.variables to
-    = c.number_place-place.ensures ∙ ap (λ vs. number_place vs to) c.as_slice.ensures in
+    = c.number_place-place.ensures ∙ ap (λ vs. number_place vs to) (of-kind p c.program.result.now c.unpack-control.result.kind c.kind_at-kind.result.now
+    c.variables.result c.program.ensures.same c.kind_at-kind.ensures c.variables.ensures.same) in
     let set : List ℕ = slice_set read c.number_place-place.result c.args.number in
     let is_set : set ≡ slice_set old (number_place c.kind_at-kind.result.now.variables to) c.args.number
     = ap (λ l. slice_set l c.number_place-place.result c.args.number) c.as_mut_slice-words.ensures.value ∙ ap (λ k. slice_set old k c.args.number) place in
@@ -103,7 +111,8 @@ returns-clause-given c =
     c.as_mut_slice-words.ensures.value c.unpack-control.ensures c.kind_at-kind.ensures c.state_at.ensures c.line_at-line.ensures in
     let past = past-read p old line to gives.0 (gives-past p old c.requires.read).1.task of gives.1 in
     let place : c.number_place-place.result ≡ number_place c.kind_at-kind.result.now.variables to
-    = c.number_place-place.ensures ∙ ap (λ vs. number_place vs to) c.as_slice.ensures in
+    = c.number_place-place.ensures ∙ ap (λ vs. number_place vs to) (of-kind p c.program.result.now c.unpack-control.result.kind c.kind_at-kind.result.now
+    c.variables.result c.program.ensures.same c.kind_at-kind.ensures c.variables.ensures.same) in
     let set : List ℕ = slice_set read c.number_place-place.result c.args.number in
     let is_set : set ≡ slice_set old (number_place c.kind_at-kind.result.now.variables to) c.args.number
     = ap (λ l. slice_set l c.number_place-place.result c.args.number) c.as_mut_slice-words.ensures.value ∙ ap (λ k. slice_set old k c.args.number) place in
@@ -123,7 +132,8 @@ returns-clause-way c =
     c.as_mut_slice-words.ensures.value c.unpack-control.ensures c.kind_at-kind.ensures c.state_at.ensures c.line_at-line.ensures in
     let past = past-read p old line to gives.0 (gives-past p old c.requires.read).1.task of gives.1 in
     let place : c.number_place-place.result ≡ number_place c.kind_at-kind.result.now.variables to
-    = c.number_place-place.ensures ∙ ap (λ vs. number_place vs to) c.as_slice.ensures in
+    = c.number_place-place.ensures ∙ ap (λ vs. number_place vs to) (of-kind p c.program.result.now c.unpack-control.result.kind c.kind_at-kind.result.now
+    c.variables.result c.program.ensures.same c.kind_at-kind.ensures c.variables.ensures.same) in
     let set : List ℕ = slice_set read c.number_place-place.result c.args.number in
     let is_set : set ≡ slice_set old (number_place c.kind_at-kind.result.now.variables to) c.args.number
     = ap (λ l. slice_set l c.number_place-place.result c.args.number) c.as_mut_slice-words.ensures.value ∙ ap (λ k. slice_set old k c.args.number) place in

@@ -1,4 +1,4 @@
-use Rattle.std.proofs.Common.{◌≡◌, ◌+◌, ◌≤◌, ◌++◌, ◌∷◌, [], sym, ◌∙◌, ap, arith}
+use Rattle.std.proofs.Common.{◌++◌, ◌∷◌, [], sym, ◌∙◌, ap, arith}
 use Rattle.run_model.specs.Placing.{words_of}
 use Rattle.plain_engine.proofs.Lists.{take_next}
 use Rattle.plain_engine.proofs.engine.keep_words.Goals as goal

@@ -1,4 +1,3 @@
-use Rattle.std.proofs.Common.{◌≡◌, ℕ, Some, length, slice_get, refl, sym, ◌∙◌, ap, cond, nat_eq, arith}
 use Rattle.plain_records.proofs.Outs.{counted_here, not_counted_here}
 use Rattle.plain_records.proofs.store.out_in.Goals as goal
 

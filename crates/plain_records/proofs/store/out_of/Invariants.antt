@@ -1,6 +1,4 @@
-use Rattle.std.proofs.Common.{◌≡◌, ◌+◌, ◌*◌, ◌<◌, ◌≤◌, IfOk, None, Some, length, replicate, slice_get, ℕ, ◌-◌}
-use Rattle.run_model.specs.Placing.{words_of}
-use Rattle.plain_state.specs.Store.{HasUnit, no_record, out_of_class, unused_store}
+use Rattle.std.proofs.Common.{◌≡◌, ◌*◌, ◌≤◌, length}
 use Rattle.plain_records.specs.Allocated.{out_before}
 use Rattle.plain_records.proofs.store.out_of.Given as goal
 

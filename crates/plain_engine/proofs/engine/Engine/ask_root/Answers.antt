@@ -1,4 +1,4 @@
-use Rattle.std.proofs.Common.{◌≡◌, ◌∷◌, ◌++◌, ◌+◌, [], length, sym, ◌∙◌, ap, subst, arith}
+use Rattle.std.proofs.Common.{◌≡◌, length, sym, ◌∙◌, ap, subst, arith}
 use Rattle.plain_state.specs.Engine.{EngineState, with_root}
 use Rattle.plain_state.specs.Laws.{AsksRoot}
 use Rattle.plain_engine.specs.EngineView.{engine_of}

@@ -1,4 +1,4 @@
-use Rattle.std.proofs.Common.{◌≡◌, ℕ, length}
+use Rattle.std.proofs.Common.{◌≡◌, length}
 use Rattle.record_core.specs.EndSeen.{RunPlan}
 use Rattle.plain_state.specs.Laws.{Asked, MayRun}
 use Rattle.plain_engine.proofs.engine.Engine.ask_roots.Given as goal

@@ -1,18 +1,18 @@
-use Rattle.std.proofs.Common.{true, false, sym, subst}
+use Rattle.std.proofs.Common.{false, sym, subst}
 use Rattle.frame_code.specs.declared.act.Act.{Act}
 use Rattle.plain_engine.specs.Going.{CarriesOut, MayCarryOut}
 use Rattle.plain_engine.proofs.CarriedOut.{frame_asks, may_be_done, is_done, may_trap, is_trapped}
 use Rattle.plain_engine.proofs.engine.Engine.carry_out.Goals as goal
 
 pub gives-requires-clause-frame : goal.gives-requires-clause-frame
-gives-requires-clause-frame c = frame_asks c.args.checked.now c.args.self.now c.args.unit c.args.frame.now.items c.args.act c.requires
+gives-requires-clause-frame c = frame_asks c.args.checked.now c.args.self.now c.args.unit c.args.frame.now.items c.args.act.now c.requires
 
 pub gives-requires-clause-ends : goal.gives-requires-clause-ends
 gives-requires-clause-ends c = may_be_done c.args.checked.now c.args.self.now c.args.unit c.args.frame.now.items c.in-Done.number
     (subst (MayCarryOut c.args.checked.now c.args.self.now c.args.unit c.args.frame.now.items) c.in-Done.is c.requires)
 
 pub gives-requires-in-Trap-clause-frame : goal.gives-requires-in-Trap-clause-frame
-gives-requires-in-Trap-clause-frame c = frame_asks c.args.checked.now c.args.self.now c.args.unit c.args.frame.now.items c.args.act c.requires
+gives-requires-in-Trap-clause-frame c = frame_asks c.args.checked.now c.args.self.now c.args.unit c.args.frame.now.items c.args.act.now c.requires
 
 pub gives-requires-in-Trap-clause-ends : goal.gives-requires-in-Trap-clause-ends
 gives-requires-in-Trap-clause-ends c = may_trap c.args.checked.now c.args.self.now c.args.unit c.args.frame.now.items c.in-Trap.trap

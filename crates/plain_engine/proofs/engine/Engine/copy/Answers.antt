@@ -1,10 +1,10 @@
-use Rattle.std.proofs.Common.{◌≡◌, ℕ, Option, Some, sym, ◌∙◌, ap, subst, arith}
+use Rattle.std.proofs.Common.{sym, ◌∙◌, ap, subst, arith}
 use Rattle.frame_code.specs.declared.act.Act.TheVariants as act
 use Rattle.frame_code.specs.Setting.{unit_in}
 use Rattle.plain_state.specs.Engine.{EngineState}
 use Rattle.plain_state.specs.Moves.{MayLetGoIf}
 use Rattle.plain_engine.specs.Asking.{without_named}
-use Rattle.plain_engine.proofs.CarriedOut.{frame_asks, fits_asks, MayCopy, copy_names, may_copy, is_copied}
+use Rattle.plain_engine.proofs.CarriedOut.{frame_asks, fits_asks, copy_names, may_copy, is_copied}
 use Rattle.plain_engine.proofs.engine.Engine.copy.Goals as goal
 
 pub future-requires-clause-frame : goal.future-requires-clause-frame

@@ -1,7 +1,6 @@
-use Rattle.std.proofs.Common.{◌≡◌, ℕ, Option, sym, ◌∙◌, ap, subst}
+use Rattle.std.proofs.Common.{ℕ, Option, sym, ◌∙◌, ap, subst}
 use Rattle.frame_code.specs.Moves.{passed_on}
 use Rattle.frame_code.specs.declared.act.Act.TheVariants as act
-use Rattle.plain_state.specs.Engine.{EngineState}
 use Rattle.plain_state.specs.Moves.{MayLetGoIf}
 use Rattle.plain_engine.specs.Asking.{without_named}
 use Rattle.plain_engine.proofs.CarriedOut.{frame_asks, fits_asks, may_drop, is_dropped}

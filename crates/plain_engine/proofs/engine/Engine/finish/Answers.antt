@@ -1,4 +1,4 @@
-use Rattle.std.proofs.Common.{◌≡◌, sym, subst}
+use Rattle.std.proofs.Common.{sym, subst}
 use Rattle.plain_state.specs.Sees.{Rests}
 use Rattle.plain_engine.proofs.Finishing.{may_finish, then_rests}
 use Rattle.plain_engine.proofs.engine.Engine.finish.Goals as goal

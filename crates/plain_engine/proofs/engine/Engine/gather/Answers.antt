@@ -1,4 +1,4 @@
-use Rattle.std.proofs.Common.{◌≡◌, ℕ, ◌≤◌, ◌+◌, ◌<◌, Option, Some, List, length, slice_get, sym, ◌∙◌, ap, subst, arith}
+use Rattle.std.proofs.Common.{ℕ, ◌≤◌, Option, List, length, slice_get, sym, ◌∙◌, ap, subst}
 use Rattle.task_syntax.specs.Places.{Each}
 use Rattle.task_syntax.specs.declared.program.Sort.TheVariants.{Future}
 use Rattle.frame_code.specs.Setting.{HasSort}
@@ -35,18 +35,18 @@ members_class-class-requires-clause-few c = few_members c.args.checked.now c.arg
     c.as_slice-2.result.now (c.as_slice-2.ensures ∙ (c.units_named-members.ensures ∙ ap (units_of
     (body_of c.args.checked.now c.args.frame.now.items)) c.as_slice.ensures)) c.requires
 
-pub members_frame-first-requires-clause-some : goal.members_frame-first-requires-clause-some
-members_frame-first-requires-clause-some c = some_members c.args.checked.now c.args.self.now c.args.unit c.args.frame.now.items c.args.request.now
+pub members_frame-requires-clause-some : goal.members_frame-requires-clause-some
+members_frame-requires-clause-some c = some_members c.args.checked.now c.args.self.now c.args.unit c.args.frame.now.items c.args.request.now
     c.as_slice-4.result.now (c.as_slice-4.ensures ∙ (c.units_named-members.ensures ∙ ap (units_of
     (body_of c.args.checked.now c.args.frame.now.items)) c.as_slice.ensures)) c.requires
 
-pub members_frame-first-requires-clause-few : goal.members_frame-first-requires-clause-few
-members_frame-first-requires-clause-few c = few_members c.args.checked.now c.args.self.now c.args.unit c.args.frame.now.items c.args.request.now
+pub members_frame-requires-clause-few : goal.members_frame-requires-clause-few
+members_frame-requires-clause-few c = few_members c.args.checked.now c.args.self.now c.args.unit c.args.frame.now.items c.args.request.now
     c.as_slice-4.result.now (c.as_slice-4.ensures ∙ (c.units_named-members.ensures ∙ ap (units_of
     (body_of c.args.checked.now c.args.frame.now.items)) c.as_slice.ensures)) c.requires
 
-pub members_frame-first-requires-clause-units : goal.members_frame-first-requires-clause-units
-members_frame-first-requires-clause-units c = small_members c.args.checked.now c.args.self.now c.args.unit c.args.frame.now.items c.args.request.now
+pub members_frame-requires-clause-units : goal.members_frame-requires-clause-units
+members_frame-requires-clause-units c = small_members c.args.checked.now c.args.self.now c.args.unit c.args.frame.now.items c.args.request.now
     c.as_slice-4.result.now (c.as_slice-4.ensures ∙ (c.units_named-members.ensures ∙ ap (units_of
     (body_of c.args.checked.now c.args.frame.now.items)) c.as_slice.ensures)) c.requires
     (subst (λ (e : EngineState). length e.store.records ≤ 524288) c.self.view_is c.keeps.ensures.units)
@@ -60,7 +60,7 @@ spawn_new-requires-clause-variable c = (fits_asks c.args.checked.now c.args.self
     (act.All c.args.request.now) c.requires).0
 
 pub spawn_new-requires-clause-first : goal.spawn_new-requires-clause-first
-spawn_new-requires-clause-first c = (c.members_frame-first.ensures c.args.checked.now).0
+spawn_new-requires-clause-first c = (c.members_frame.ensures c.args.checked.now).0
 
 pub spawn_new-requires-clause-known : goal.spawn_new-requires-clause-known
 spawn_new-requires-clause-known c = subst (λ (o : Option ℕ). IsKnown c.args.self.now o) (sym c.first_of-after.ensures)
@@ -73,17 +73,17 @@ spawn_new-requires-clause-asks c = (
   c.requires.moment,
   asks_all c.args.checked.now c.args.self.now c.args.unit c.args.frame.now.items c.args.request.now c.units_named-members.result
       (c.units_named-members.ensures ∙ ap (units_of (body_of c.args.checked.now c.args.frame.now.items)) c.as_slice.ensures)
-      c.members_class-class.result c.first_of-after.result c.members_frame-first.result.items c.requires.moment c.requires.at
+      c.members_class-class.result c.first_of-after.result c.members_frame.new.frame.items c.requires.moment c.requires.at
       (c.members_class-class.ensures ∙ ap (λ (ms : List ℕ). members_class (length ms)) c.as_slice-2.ensures)
       (c.first_of-after.ensures ∙ ap (λ (ms : List ℕ). slice_get ms 0) c.as_slice-3.ensures)
-      ((c.members_frame-first.ensures c.args.checked.now).1 ∙ ap (λ (ms : List ℕ). OfMembers ms 1) c.as_slice-4.ensures),
+      ((c.members_frame.ensures c.args.checked.now).1 ∙ ap (λ (ms : List ℕ). OfMembers ms 1) c.as_slice-4.ensures),
 )
 
 pub returns-clause-steps : goal.returns-clause-steps
 returns-clause-steps c m at = c.spawn_new.ensures.steps m
     (asks_all c.args.checked.now c.args.self.now c.args.unit c.args.frame.now.items c.args.request.now c.units_named-members.result
     (c.units_named-members.ensures ∙ ap (units_of (body_of c.args.checked.now c.args.frame.now.items)) c.as_slice.ensures)
-    c.members_class-class.result c.first_of-after.result c.members_frame-first.result.items m at
+    c.members_class-class.result c.first_of-after.result c.members_frame.new.frame.items m at
     (c.members_class-class.ensures ∙ ap (λ (ms : List ℕ). members_class (length ms)) c.as_slice-2.ensures)
     (c.first_of-after.ensures ∙ ap (λ (ms : List ℕ). slice_get ms 0) c.as_slice-3.ensures)
-    ((c.members_frame-first.ensures c.args.checked.now).1 ∙ ap (λ (ms : List ℕ). OfMembers ms 1) c.as_slice-4.ensures))
+    ((c.members_frame.ensures c.args.checked.now).1 ∙ ap (λ (ms : List ℕ). OfMembers ms 1) c.as_slice-4.ensures))

@@ -1,4 +1,6 @@
 use Rattle.std.proofs.Common.{◌≡◌, ◌∙◌, ap}
+use Rattle.std.specs.List.{filter_map}
+use Rattle.frame_code.specs.Words.{unit_named}
 use Rattle.plain_state.specs.Engine.{EngineState}
 use Rattle.plain_state.specs.Store.{units_of}
 use Rattle.plain_engine.proofs.StoreSizes.{held_size, made_size, unit_stays, fits_still}
@@ -7,13 +9,13 @@ use Rattle.plain_engine.proofs.engine.Engine.make.Goals as goal
 -- to hold what the frame names leaves as many units
 same_units : (c : goal.After-make-arg-1) → units_of c.self.inside.records ≡ units_of c.args.self.now.store
 same_units c = ap (λ (e : EngineState). units_of e.store)
-    (c.self.view_is ∙ c.hold_all.ensures) ∙ held_size c.as_slice.result.now c.args.self.now.store
+    (c.self.view_is ∙ c.hold_named.ensures) ∙ held_size (filter_map unit_named c.naming_words.result.now) c.args.self.now.store
 
 -- and so does the record
 still_units : (c : goal.After-store-arg-1) → units_of c.make.new.self ≡ units_of c.args.self.now.store
 still_units c =
     ap units_of c.make.ensures ∙ made_size c.args.block _ c.self.inside.records
-    ∙ (ap (λ (e : EngineState). units_of e.store) (c.self.view_is ∙ c.hold_all.ensures) ∙ held_size c.as_slice.result.now c.args.self.now.store)
+    ∙ (ap (λ (e : EngineState). units_of e.store) (c.self.view_is ∙ c.hold_named.ensures) ∙ held_size (filter_map unit_named c.naming_words.result.now) c.args.self.now.store)
 
 pub make-requires : goal.make-requires
 make-requires c = unit_stays c.args.self.now.store c.self.inside.records c.args.block.unit (same_units c) c.requires.may.within

@@ -1,4 +1,4 @@
-use Rattle.std.proofs.Common.{◌≡◌, ℕ, List, sym, ◌∙◌, ap, subst}
+use Rattle.std.proofs.Common.{ℕ, List, sym, ◌∙◌, ap, subst}
 use Rattle.frame_code.specs.Units.{GivesUp}
 use Rattle.frame_code.specs.declared.act.Act.TheVariants as act
 use Rattle.record_core.specs.declared.rows.Cause.TheVariants as cause
@@ -36,20 +36,20 @@ pub renews-requires : goal.renews-requires
 renews-requires c = may_renew c.args.checked.now c.args.self.now c.args.unit c.args.frame.now.items c.args.request c.behind_next-behind.result
     c.behind_next-behind.ensures c.requires
 
-pub enter_held-given_up-requires-clause-frame : goal.enter_held-given_up-requires-clause-frame
-enter_held-given_up-requires-clause-frame c = frame_asks c.args.checked.now c.args.self.now c.args.unit c.args.frame.now.items
+pub enter_held-requires-clause-frame : goal.enter_held-requires-clause-frame
+enter_held-requires-clause-frame c = frame_asks c.args.checked.now c.args.self.now c.args.unit c.args.frame.now.items
     (act.Again c.args.request) c.requires
 
 pub go_on-requires : goal.go_on-requires
 go_on-requires c =
-    subst (λ (e : EngineState). MayGoOn c.args.unit c.behind_next-behind.result c.as_slice.result.now c.enter_held-given_up.new.frame.items e.store)
+    subst (λ (e : EngineState). MayGoOn c.args.unit c.behind_next-behind.result c.as_slice.result.now c.enter_held.new.frame.items e.store)
     (sym c.if-renews.ensures.1)
     (may_go_on c.args.checked.now c.args.self.now c.args.unit c.args.frame.now.items c.args.request c.requires.moment c.requires.at
-    c.behind_next-behind.result c.next_priority-priority.result c.enter_held-given_up.new.frame.items c.as_slice.result.now
-    c.behind_next-behind.ensures c.next_priority-priority.ensures c.if-renews.ensures.0 c.enter_held-given_up.ensures.frame
-    c.enter_held-given_up.ensures.moved
-    (subst (λ (given_up : List ℕ). GivesUp c.args.checked.now c.args.frame.now.items given_up c.enter_held-given_up.new.frame.items)
-    (sym c.as_slice.ensures) c.enter_held-given_up.ensures.parts))
+    c.behind_next-behind.result c.next_priority-priority.result c.enter_held.new.frame.items c.as_slice.result.now
+    c.behind_next-behind.ensures c.next_priority-priority.ensures c.if-renews.ensures.0 c.enter_held.ensures.frame
+    c.enter_held.ensures.moved
+    (subst (λ (given_up : List ℕ). GivesUp c.args.checked.now c.args.frame.now.items given_up c.enter_held.new.frame.items)
+    (sym c.as_slice.ensures) c.enter_held.ensures.parts))
 
 pub refuse-requires-clause-frame : goal.refuse-requires-clause-frame
 refuse-requires-clause-frame c = frame_asks c.args.checked.now c.args.self.now c.args.unit c.args.frame.now.items
@@ -69,13 +69,13 @@ returns-then-renews c m at = (
   1,
   subst (λ (e : EngineState). Rests c.args.checked.now m.columns m.plan e (step c.args.checked.now m.columns m.plan.units m.run))
       (sym (c.go_on.ensures ∙ ap
-      (gone_on c.args.unit c.behind_next-behind.result c.as_slice.result.now c.enter_held-given_up.new.frame.items) c.if-renews.ensures.1))
+      (gone_on c.args.unit c.behind_next-behind.result c.as_slice.result.now c.enter_held.new.frame.items) c.if-renews.ensures.1))
       (rests_after c.args.checked.now c.args.self.now c.args.unit c.args.frame.now.items c.args.request m at c.behind_next-behind.result
-      c.next_priority-priority.result c.enter_held-given_up.new.frame.items c.as_slice.result.now
-      c.behind_next-behind.ensures c.next_priority-priority.ensures c.if-renews.ensures.0 c.enter_held-given_up.ensures.frame
-      c.enter_held-given_up.ensures.moved
-      (subst (λ (given_up : List ℕ). GivesUp c.args.checked.now c.args.frame.now.items given_up c.enter_held-given_up.new.frame.items)
-      (sym c.as_slice.ensures) c.enter_held-given_up.ensures.parts)),
+      c.next_priority-priority.result c.enter_held.new.frame.items c.as_slice.result.now
+      c.behind_next-behind.ensures c.next_priority-priority.ensures c.if-renews.ensures.0 c.enter_held.ensures.frame
+      c.enter_held.ensures.moved
+      (subst (λ (given_up : List ℕ). GivesUp c.args.checked.now c.args.frame.now.items given_up c.enter_held.new.frame.items)
+      (sym c.as_slice.ensures) c.enter_held.ensures.parts)),
 )
 
 pub returns-else-renews : goal.returns-else-renews

@@ -1,4 +1,4 @@
-use Rattle.std.proofs.Common.{◌≡◌, sym, ◌∙◌}
+use Rattle.std.proofs.Common.{sym, ◌∙◌}
 use Rattle.plain_state.specs.Laws.{skips}
 use Rattle.plain_engine.proofs.engine.Engine.root_state.Goals as goal
 

@@ -1,4 +1,3 @@
-use Rattle.std.proofs.Common.{◌≡◌}
 use Rattle.plain_engine.proofs.Acting.{comes_to_end, comes_to_run, lines_fall, may_carry_out, runs_frame, still_running}
 use Rattle.plain_engine.proofs.engine.Engine.run.Goals as goal
 
@@ -15,7 +14,7 @@ carry_out-requires c = may_carry_out c.args.checked.now c.args.columns.now c.act
 pub returns-then-not-carry_out : goal.returns-then-not-carry_out
 returns-then-not-carry_out c = comes_to_end c.args.checked.now c.args.columns.now c.acts.self c.args.unit c.acts.frame.items c.advance-act.new.frame.items c.advance-act.result
     c.advance-act.ensures.frame c.advance-act.ensures.acts c.carry_out.result c.carry_out.new.self c.carry_out.new.frame.items c.carry_out.ensures.steps c.if-not-carry_out.true
-    c.args.self.now c.args.frame.items c.acts.invariant.1
+    c.args.self.now c.args.frame.now.items c.acts.invariant.1
 
 -- src/turn.rt:55:9
 pub acts-smaller : goal.acts-smaller
@@ -31,5 +30,5 @@ acts-preserved c = (
       c.acts.invariant.0,
   comes_to_run c.args.checked.now c.args.columns.now c.acts.self c.args.unit c.acts.frame.items c.advance-act.new.frame.items c.advance-act.result
       c.advance-act.ensures.frame c.advance-act.ensures.acts c.carry_out.result c.carry_out.new.self c.carry_out.new.frame.items c.carry_out.ensures.steps c.if-not-carry_out.false
-      c.args.self.now c.args.frame.items c.acts.invariant.1,
+      c.args.self.now c.args.frame.now.items c.acts.invariant.1,
 )

@@ -1,4 +1,3 @@
-use Rattle.std.proofs.Common.{ℕ}
 use Rattle.record_core.specs.EndSeen.{RunPlan}
 use Rattle.run_model.specs.State.{Run}
 use Rattle.frame_code.specs.Words.{body_of}

@@ -1,10 +1,6 @@
-use Rattle.std.proofs.Common.{rules, ◌≡◌, ◌+◌, ◌≤◌, length, ℕ, ◌-◌, ◌*◌, ◌<◌, ◌/◌, ◌%◌, Bool, true, false, nat_eq, nat_lt, List, [], ◌∷◌, ◌++◌, slice_index_or, slice_set, bit_and, bit_or, Fits, w8, w32, w64, Bor, MutBor}
-use Rattle.std.specs.List.{flat_map}
-use Rattle.task_meaning.specs.Meant.{future_at}
-use Rattle.record_core.specs.RootEnds.{root_passed, roots_named}
-use Rattle.plain_state.specs.Laws.{first_without_task, root_after, root_units}
-use Rattle.plain_state.specs.Laws.{taskless as taskless_at}
-use Rattle.plain_engine.specs.Roots.{ArgumentHasTask, ArgumentsHaveTasks, IsAskedFor, IsPassedFor, IsPassedTo, MayAskRoot, NamesTasks, RootIs}
+use Rattle.std.proofs.Common.{◌≤◌, length}
+use Rattle.plain_state.specs.Laws.{root_after}
+use Rattle.plain_engine.specs.Roots.{ArgumentsHaveTasks, IsPassedTo}
 use Rattle.std.proofs.Common.{IfSome, sym, ◌∙◌, ap, subst}
 use Rattle.record_core.specs.Numbers.{HasTask}
 use Rattle.plain_state.specs.declared.record.Behind.{Behind}
@@ -48,12 +44,12 @@ pub passed_to-passed-requires-clause-few : goal.passed_to-passed-requires-clause
 passed_to-passed-requires-clause-few c = few_arguments c.args.checked.now c.args.self.now c.args.root.now c.requires.asked
 
 -- src/roots.rt:63:29
-pub entry_frame-frame-requires-clause-kind : goal.entry_frame-frame-requires-clause-kind
-entry_frame-frame-requires-clause-kind c = kind_fits c.args.checked.now c.args.self.now c.args.root.now c.requires.asked
+pub entry_frame-requires-clause-kind : goal.entry_frame-requires-clause-kind
+entry_frame-requires-clause-kind c = kind_fits c.args.checked.now c.args.self.now c.args.root.now c.requires.asked
 
 -- src/roots.rt:63:29
-pub entry_frame-frame-requires-clause-passed : goal.entry_frame-frame-requires-clause-passed
-entry_frame-frame-requires-clause-passed c =
+pub entry_frame-requires-clause-passed : goal.entry_frame-requires-clause-passed
+entry_frame-requires-clause-passed c =
     let given = subst (λ answer. IsAnswer c.args.self.now c.class_of-class.result c.behind-behind.result.task answer c.ask.new.self) c.in-Given.is c.ask.ensures in
     let passes : IsPassedTo c.args.self.now.roots c.args.root.now c.passed_to-passed.result.items
     = subst (λ (e : EngineState). IsPassedTo e.roots c.args.root.now c.passed_to-passed.result.items) given.after_is c.passed_to-passed.ensures in
@@ -67,11 +63,11 @@ make-requires-clause-may c =
     let given = subst (λ answer. IsAnswer c.args.self.now c.class_of-class.result c.behind-behind.result.task answer c.ask.new.self) c.in-Given.is c.ask.ensures in
     let passes : IsPassedTo c.args.self.now.roots c.args.root.now c.passed_to-passed.result.items
     = subst (λ (e : EngineState). IsPassedTo e.roots c.args.root.now c.passed_to-passed.result.items) given.after_is c.passed_to-passed.ensures in
-    let enters : IsEntryOf c.args.checked.now c.args.root.now.kind c.passed_to-passed.result.items c.entry_frame-frame.result.items
-    = subst (λ items. IsEntryOf c.args.checked.now c.args.root.now.kind items c.entry_frame-frame.result.items) c.as_slice.ensures.value c.entry_frame-frame.ensures.entry in
+    let enters : IsEntryOf c.args.checked.now c.args.root.now.kind c.passed_to-passed.result.items c.entry_frame.new.frame.items
+    = subst (λ items. IsEntryOf c.args.checked.now c.args.root.now.kind items c.entry_frame.new.frame.items) c.as_slice.ensures.value c.entry_frame.ensures.entry in
     may_make c.args.checked.now c.args.self.now c.args.root.now c.requires.asked c.requires.tasks c.class_of-class.result c.class_of-class.ensures
     c.behind-behind.result (c.behind-behind.ensures ∙ ap (behind_at c.args.self.now.store) c.unit_behind.ensures) c.in-Given.block c.in-Given.number c.ask.new.self given c.passed_to-passed.result.items passes
-    c.entry_frame-frame.result.items c.entry_frame-frame.ensures.frame enters
+    c.entry_frame.new.frame.items c.entry_frame.ensures.frame enters
 
 -- src/roots.rt:66:17
 pub arrive-requires : goal.arrive-requires
@@ -79,11 +75,11 @@ arrive-requires c =
     let given = subst (λ answer. IsAnswer c.args.self.now c.class_of-class.result c.behind-behind.result.task answer c.ask.new.self) c.in-Given.is c.ask.ensures in
     let passes : IsPassedTo c.args.self.now.roots c.args.root.now c.passed_to-passed.result.items
     = subst (λ (e : EngineState). IsPassedTo e.roots c.args.root.now c.passed_to-passed.result.items) given.after_is c.passed_to-passed.ensures in
-    let enters : IsEntryOf c.args.checked.now c.args.root.now.kind c.passed_to-passed.result.items c.entry_frame-frame.result.items
-    = subst (λ items. IsEntryOf c.args.checked.now c.args.root.now.kind items c.entry_frame-frame.result.items) c.as_slice.ensures.value c.entry_frame-frame.ensures.entry in
+    let enters : IsEntryOf c.args.checked.now c.args.root.now.kind c.passed_to-passed.result.items c.entry_frame.new.frame.items
+    = subst (λ items. IsEntryOf c.args.checked.now c.args.root.now.kind items c.entry_frame.new.frame.items) c.as_slice.ensures.value c.entry_frame.ensures.entry in
     may_arrive c.args.checked.now c.args.self.now c.args.root.now c.requires.asked c.requires.tasks c.class_of-class.result c.class_of-class.ensures
     c.behind-behind.result (c.behind-behind.ensures ∙ ap (behind_at c.args.self.now.store) c.unit_behind.ensures) c.in-Given.block c.in-Given.number c.ask.new.self given c.passed_to-passed.result.items passes
-    c.entry_frame-frame.result.items c.entry_frame-frame.ensures.frame enters c.make.new.self c.make.ensures c.unit-unit.result c.unit-unit.ensures
+    c.entry_frame.new.frame.items c.entry_frame.ensures.frame enters c.make.new.self c.make.ensures c.unit-unit.result c.unit-unit.ensures
 
 -- src/roots.rt:52:5
 pub returns-in-Given : goal.returns-in-Given
@@ -91,11 +87,11 @@ returns-in-Given c =
     let given = subst (λ answer. IsAnswer c.args.self.now c.class_of-class.result c.behind-behind.result.task answer c.ask.new.self) c.in-Given.is c.ask.ensures in
     let passes : IsPassedTo c.args.self.now.roots c.args.root.now c.passed_to-passed.result.items
     = subst (λ (e : EngineState). IsPassedTo e.roots c.args.root.now c.passed_to-passed.result.items) given.after_is c.passed_to-passed.ensures in
-    let enters : IsEntryOf c.args.checked.now c.args.root.now.kind c.passed_to-passed.result.items c.entry_frame-frame.result.items
-    = subst (λ items. IsEntryOf c.args.checked.now c.args.root.now.kind items c.entry_frame-frame.result.items) c.as_slice.ensures.value c.entry_frame-frame.ensures.entry in
+    let enters : IsEntryOf c.args.checked.now c.args.root.now.kind c.passed_to-passed.result.items c.entry_frame.new.frame.items
+    = subst (λ items. IsEntryOf c.args.checked.now c.args.root.now.kind items c.entry_frame.new.frame.items) c.as_slice.ensures.value c.entry_frame.ensures.entry in
     root_has_task c.args.checked.now c.args.self.now c.args.root.now c.requires.asked c.requires.tasks c.class_of-class.result c.class_of-class.ensures
     c.behind-behind.result (c.behind-behind.ensures ∙ ap (behind_at c.args.self.now.store) c.unit_behind.ensures) c.in-Given.block c.in-Given.number c.ask.new.self given c.passed_to-passed.result.items passes
-    c.entry_frame-frame.result.items c.entry_frame-frame.ensures.frame enters c.make.new.self c.make.ensures c.unit-unit.result c.unit-unit.ensures c.arrive.new.self c.arrive.ensures
+    c.entry_frame.new.frame.items c.entry_frame.ensures.frame enters c.make.new.self c.make.ensures c.unit-unit.result c.unit-unit.ensures c.arrive.new.self c.arrive.ensures
 
 -- src/roots.rt:52:5
 pub returns-in-Refused : goal.returns-in-Refused

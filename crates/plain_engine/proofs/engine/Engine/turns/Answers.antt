@@ -1,4 +1,3 @@
-use Rattle.std.proofs.Common.{◌≡◌}
 use Rattle.plain_engine.proofs.Turning.{idles_on, rests_on}
 use Rattle.plain_engine.proofs.engine.Engine.turns.Goals as goal
 

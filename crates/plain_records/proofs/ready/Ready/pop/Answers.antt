@@ -1,4 +1,4 @@
-use Rattle.std.proofs.Common.{◌≡◌, sym, ◌∙◌}
+use Rattle.std.proofs.Common.{sym, ◌∙◌}
 use Rattle.plain_records.proofs.Popped.{high_taken, regular_taken, low_taken}
 use Rattle.plain_records.proofs.ready.Ready.pop.Goals as goal
 

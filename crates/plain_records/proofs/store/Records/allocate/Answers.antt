@@ -1,4 +1,4 @@
-use Rattle.std.proofs.Common.{◌≡◌, sym, refl}
+use Rattle.std.proofs.Common.{sym}
 use Rattle.plain_records.proofs.Given.{allocates}
 use Rattle.plain_records.proofs.store.Records.allocate.Goals as goal
 

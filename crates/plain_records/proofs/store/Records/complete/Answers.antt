@@ -1,4 +1,4 @@
-use Rattle.std.proofs.Common.{◌≡◌, ℕ, List, refl, sym, subst, ◌∙◌, ap}
+use Rattle.std.proofs.Common.{refl}
 use Rattle.plain_records.proofs.Waking.{may_wake}
 use Rattle.plain_records.proofs.store.Records.complete.Goals as goal
 

@@ -1,4 +1,3 @@
-use Rattle.std.proofs.Common.{ℕ, List}
 use Rattle.plain_records.proofs.store.Records.complete.Given as goal
 
 abbrev pub ghost-wake : goal.ghost-wake

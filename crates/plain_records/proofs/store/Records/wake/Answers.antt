@@ -1,4 +1,4 @@
-use Rattle.std.proofs.Common.{◌≡◌, ℕ, List, [], ◌∷◌, None, refl, sym, subst, ◌∙◌, ap}
+use Rattle.std.proofs.Common.{◌≡◌, [], refl, sym, subst, ◌∙◌, ap}
 use Rattle.plain_state.specs.Store.{woken}
 use Rattle.plain_records.specs.Taken.{MayWake}
 use Rattle.plain_records.proofs.Waking.{nothing_left, unit_may, goes_on, fewer_left}

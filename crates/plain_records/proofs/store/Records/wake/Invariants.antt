@@ -1,6 +1,6 @@
-use Rattle.std.proofs.Common.{◌≡◌, ℕ, List, [], ◌∷◌, ◌+◌, ◌-◌, ◌*◌, ◌<◌, ◌≤◌, length}
-use Rattle.plain_state.specs.Store.{HasPlaces, HasUnit, MayComplete, completed, linked, queued_at, queued_count, renewed, woken}
-use Rattle.plain_records.specs.Taken.{IsNextOf, IsTaken, MayWake}
+use Rattle.std.proofs.Common.{◌≡◌, ℕ, List, ◌-◌, length}
+use Rattle.plain_state.specs.Store.{queued_count, woken}
+use Rattle.plain_records.specs.Taken.{MayWake}
 use Rattle.plain_records.proofs.store.Records.wake.Given as goal
 
 abbrev pub invariant-waiters : goal.invariant-waiters

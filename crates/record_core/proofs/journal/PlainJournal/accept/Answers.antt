@@ -1,8 +1,9 @@
-use Rattle.std.proofs.Common.{◌≡◌, ◌∙◌, ◌<◌, true, [], ◌∷◌, ◌++◌, length, arith}
+use Rattle.std.proofs.Common.{◌≡◌, ◌∙◌, ap, ◌<◌, true, [], ◌∷◌, ◌++◌, length, arith}
 use Rattle.std.specs.Prelude.{None, is_ok}
 use Rattle.record_core.specs.Journal.{JournalState, unfinished}
 use Rattle.record_core.specs.JournalInvariant.{journal_of, HasRoom}
 use Rattle.record_core.specs.declared.rows.ActivationRow.{ActivationRow}
+use Rattle.record_core.specs.declared.rows.TaskRow.{TaskRow}
 use Rattle.record_core.proofs.JournalCode.{grown, accepted_by, room-accepted}
 use Rattle.record_core.proofs.journal.PlainJournal.accept.Goals as goal
 
@@ -18,9 +19,11 @@ invariant_of-self c =
     = c.push-fits-2.ensures.succeeds (omega (arith, inside.tasks.ok.0, room.journal.beside, more, room.tasks_fit)) in
     let row : ActivationRow = record { task = c.unwrap_or-task.result; after = c.args.after; start = None } in
     let rows : c.push-fits.new.self.items ≡ inside.rows.items ++ row ∷ []
-    = grown (is_ok c.push-fits.result) c.push-fits.new.self.items (inside.rows.items ++ row ∷ []) inside.rows.items c.push-fits.ensures.items fits in
+    = grown (is_ok c.push-fits.result) c.push-fits.new.self.items (inside.rows.items ++ c.new.result ∷ []) inside.rows.items c.push-fits.ensures.items fits
+    ∙ ap (λ (r : ActivationRow). inside.rows.items ++ r ∷ []) c.new.ensures in
     let tasks : c.push-fits-2.new.self.items ≡ inside.tasks.items ++ unfinished ∷ []
-    = grown (is_ok c.push-fits-2.result) c.push-fits-2.new.self.items (inside.tasks.items ++ unfinished ∷ []) inside.tasks.items c.push-fits-2.ensures.items also_fits in
+    = grown (is_ok c.push-fits-2.result) c.push-fits-2.new.self.items (inside.tasks.items ++ c.new-2.result ∷ []) inside.tasks.items c.push-fits-2.ensures.items also_fits
+    ∙ ap (λ (t : TaskRow). inside.tasks.items ++ t ∷ []) c.new-2.ensures in
     room-accepted was c.args.self.now (journal_of c.push-fits.new.self.items c.push-fits-2.new.self.items inside.stamps inside.limit)
     c.args.task c.args.after inside.rows.cap inside.tasks.cap c.push-fits.new.self.cap c.push-fits-2.new.self.cap c.self.view_is room more c.requires.task c.requires.after
     (accepted_by was c.args.task c.args.after c.unwrap_or-task.result c.len-2.result c.push-fits.new.self.items c.push-fits-2.new.self.items
