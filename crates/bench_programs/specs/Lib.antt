@@ -1,0 +1,4 @@
+pub mod Family
+pub mod Programs
+pub mod Parts
+pub mod Laws
