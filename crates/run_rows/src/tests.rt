@@ -3,6 +3,7 @@ ghost use Rattle.run_report.specs.CanReport.{CanReport};
 
 use crate::reported::report;
 use crate::samples::{SAMPLES, Sample};
+use column_input::{ColumnError, read_columns};
 use kt_words::{Geometry, Plan};
 use plain_engine::{PlainEnd, PlainRun};
 use record_core::{CutTag, Ended, RootEnd};
@@ -39,13 +40,17 @@ fn plan_of(checked: &Checked, superblocks: u32, units: u32, limit: u64) -> Optio
     Plan::new(geometry, limit, roots)
 }
 
-/// The end of a run within a plan.
-fn run(alloc: Global, checked: &Checked, plan: Plan) -> Result<PlainEnd, AllocError>
+/// The end of a run within a plan, on columns.
+fn run(
+    alloc: Global,
+    checked: &Checked,
+    columns: &Columns,
+    plan: Plan,
+) -> Result<PlainEnd, AllocError>
     requires { plan.roots ≡ length checked.now.roots }
     ensures { IfOk result (λ end. CanReport checked.now end) }
 {
-    let columns = Columns::none(alloc);
-    match PlainRun::run(alloc, checked, &columns, plan) {
+    match PlainRun::run(alloc, checked, columns, plan) {
         Ok(end) => Ok(end),
         Err(_) => Err(AllocError),
     }
@@ -61,7 +66,7 @@ fn run_of(alloc: Global, sample: &Sample) -> Result<Option<(Checked, PlainEnd)>,
     let Some(plan) = plan_of(&checked, sample.superblocks, sample.units, sample.limit) else {
         return Ok(None);
     };
-    let end = run(alloc, &checked, plan)?;
+    let end = run(alloc, &checked, &Columns::none(alloc), plan)?;
     Ok(Some((checked, end)))
 }
 
@@ -98,7 +103,7 @@ fn roots_of(alloc: Global, behind: &str) -> Result<Option<PlainEnd>, AllocError>
     let Some(plan) = plan_of(&checked, 256, 512, 1_000_000) else {
         return Ok(None);
     };
-    Ok(Some(run(alloc, &checked, plan)?))
+    Ok(Some(run(alloc, &checked, &Columns::none(alloc), plan)?))
 }
 
 #[test]
@@ -118,4 +123,41 @@ fn is_seven(end: &PlainEnd, root: u8) -> bool {
 
 fn is_limit(end: &PlainEnd, root: u8) -> bool {
     root < end.root_count() && matches!(end.root(root), RootEnd::Cut(CutTag::Limit, _))
+}
+
+/// Halves the rows of a column until one row is left, and adds the halves up.
+const SUM: &str = "ktask 1\nkind sum first past\nvar middle x @a @b @g\nstate start\n\
+    sub middle past first\nif middle == 0 goto none\nif middle == 1 goto one\n\
+    div middle middle 2\nadd middle first middle\nspawn @a sum first middle\n\
+    spawn @b sum middle past\nall @g @a @b\nagain both behind @g\n\
+    label one\ncell x price first\ndone x\nlabel none\ndone 0\n\
+    state both holds @a @b settled @a @b\nget x @a\nget middle @b\nadd x x middle\n\
+    done x\nend\n\
+    kind main\nvar n x @a\nstate start\nrows n price\nspawn @a sum 0 n\n\
+    again out behind @a\nstate out holds @a settled @a\nget x @a\ndone x\nend\n\
+    root total main\n";
+
+const PRICES: &str = "id,price\n1,10\n2,20\n3,30\n4,40\n5,50\n";
+
+const TOTAL: &str = "root total 150\nactivations 23\ntasks 14\nnulls 0\nheld 1 0 0 0\n";
+
+fn columns_of(alloc: Global, text: &str) -> Result<Option<Columns>, AllocError> {
+    match read_columns(alloc, text.as_bytes()) {
+        Ok(columns) => Ok(Some(columns)),
+        Err(ColumnError::Memory) => Err(AllocError),
+        Err(ColumnError::Fault { .. }) => Ok(None),
+    }
+}
+
+#[test]
+fn a_column_is_summed(rt: HostRuntime) -> Result<(), Fail> {
+    let alloc = rt.alloc();
+    let checked = program_of(alloc, SUM)?.ok_or("no program")?;
+    let columns = columns_of(alloc, PRICES)?.ok_or("no columns")?;
+    let plan = plan_of(&checked, 256, 512, 1_000_000).ok_or("no plan")?;
+    let end = run(alloc, &checked, &columns, plan)?;
+    let mut out = sink(alloc)?;
+    assert!(rt; report(&end, &checked, false, &mut out).is_ok());
+    assert_eq!(rt; out.bytes.as_slice(), TOTAL.as_bytes());
+    Ok(())
 }
