@@ -10,16 +10,17 @@ use Rattle.task_text.specs.declared.fault.Fault.{Fault}
 use Rattle.task_reader.specs.Read.{program_in}
 use Rattle.task_reader.proofs.Read.{program_in-formed}
 use Rattle.task_writer.specs.Text.{text_of}
-use Rattle.ktask_cli.specs.declared.choice.Command.TheVariants.{Run, Check, Print}
+use Rattle.run_report.specs.CheckLines.{check_lines}
+use Rattle.run_report.specs.Lines.{text_of as lines_text}
 use Rattle.tool_io.specs.declared.fetch_error.FetchError.{FetchError}
 use Rattle.ktask_cli.specs.declared.stop.InputFile.TheVariants as file
 use Rattle.ktask_cli.specs.declared.stop.Stop.{Stop}
 use Rattle.ktask_cli.specs.declared.stop.Stop.TheVariants as stop
 use Rattle.ktask_cli.specs.Plan.{Plan, content_of, judged, OrWants, ◌>>=◌}
-use Rattle.ktask_cli.specs.Ready.{read_from, read_in, Checks, sizes_line, program_under, columns_from, columns_read, valid_under, columns_under, input_under, sizes_under, text_under}
+use Rattle.ktask_cli.specs.Ready.{read_from, read_in, Checks, program_under, columns_from, columns_read, valid_under, columns_under, input_under, kinds_under, text_under}
 use Rattle.tool_io.specs.Seen.{ShelfSeen, Holds}
 use Rattle.ktask_cli.specs.Io.{Fetches}
-use Rattle.ktask_cli.specs.Statuses.{Suits, HasColumns, IsFetched}
+use Rattle.ktask_cli.specs.Statuses.{Run, Check, Print, Suits, HasColumns, IsFetched}
 use Rattle.column_input.specs.Records.{records_of}
 use Rattle.column_input.specs.Reading.{columns_in, Fault as ColumnFault}
 use Rattle.ktask_cli.specs.Stop.{status_of, fetch_stop}
@@ -227,14 +228,14 @@ pub record TookOne (P : Program → Type 0) (name : List ℕ) (was is : ShelfSee
   pub program : Took P name was
   pub told : IsFetched is
 
-pub check_took : (name : List ℕ) (was is : ShelfSeen) (text : List ℕ) → sizes_under name was is (Ok text) → TookOne (Suits Check) name was is
+pub check_took : (name : List ℕ) (was is : ShelfSeen) (text : List ℕ) → kinds_under name was is (Ok text) → TookOne (Suits Check) name was is
 check_took name was is text f =
-    let j = judged_ready (valid_under name) (λ q result. result ≡ Ok (sizes_line q)) was is text f in
+    let j = judged_ready (valid_under name) (λ q result. result ≡ Ok (lines_text (check_lines q))) was is text f in
     record { program = valid_took (Suits Check) (λ p h. h) name was is j.0 j.1; told = valid_told name was is j.0 j.1 }
 
-pub check_stopped : (name : List ℕ) (was is : ShelfSeen) (s : Stop) → sizes_under name was is (Err s) → Cause (Suits Check) name was is s
-check_stopped name was is s f = by (judged_stop (valid_under name) (λ q result. result ≡ Ok (sizes_line q)) was is s f) where
-  by : Stopped (valid_under name) (λ q result. result ≡ Ok (sizes_line q)) was is s → Cause (Suits Check) name was is s
+pub check_stopped : (name : List ℕ) (was is : ShelfSeen) (s : Stop) → kinds_under name was is (Err s) → Cause (Suits Check) name was is s
+check_stopped name was is s f = by (judged_stop (valid_under name) (λ q result. result ≡ Ok (lines_text (check_lines q))) was is s f) where
+  by : Stopped (valid_under name) (λ q result. result ≡ Ok (lines_text (check_lines q))) was is s → Cause (Suits Check) name was is s
   by (wanted e) = wants e
   by (earlier e) = valid_stopped (Suits Check) (λ p h. h) name was is s e
   by (here p c e) = cc

@@ -2,6 +2,8 @@ pub mod Told
 pub mod Offered
 pub mod Plans
 pub mod Causes
+pub mod Chosen
 pub mod Ends
 pub mod RootsSeen
+pub mod RunEnded
 pub mod Statuses

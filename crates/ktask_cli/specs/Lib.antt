@@ -1,7 +1,7 @@
-pub mod Choice
 pub mod Plan
 pub mod Refusal
 pub mod Order
+pub mod Help
 pub mod RunStatus
 pub mod Io
 pub mod Stop

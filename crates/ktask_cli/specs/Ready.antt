@@ -1,5 +1,5 @@
 -- What the files of a command come to: a program, columns, or a reason to stop.
-use Rattle.std.specs.Prelude.{◌≡◌, ℕ, ◌++◌, codes, decimal, length, Option, Some, None, List, Result, Ok, Err}
+use Rattle.std.specs.Prelude.{◌≡◌, ℕ, Option, Some, None, List, Result, Ok, Err}
 use Rattle.task_syntax.specs.Columns.{no_columns}
 use Rattle.task_syntax.specs.Valid.{IsValid}
 use Rattle.task_syntax.specs.declared.columns.Columns.{Columns}
@@ -11,6 +11,8 @@ use Rattle.task_writer.specs.Text.{text_of}
 use Rattle.task_check.specs.Faults.{TellsFirst}
 use Rattle.column_input.specs.Records.{records_of}
 use Rattle.column_input.specs.Reading.{columns_in, Fault as ColumnFault}
+use Rattle.run_report.specs.CheckLines.{check_lines}
+use Rattle.run_report.specs.Lines.{text_of as lines_text}
 use Rattle.task_check.specs.declared.fault.CheckError.TheVariants as check_error
 use Rattle.ktask_cli.specs.declared.stop.InputFile.TheVariants as file
 use Rattle.ktask_cli.specs.declared.stop.Stop.{Stop}
@@ -39,10 +41,6 @@ columns_from (Err fault) = Err (ColumnsFault fault.cause fault.row fault.column)
 abbrev pub columns_read : List ℕ → Result Columns Stop
 columns_read text = columns_from (columns_in (records_of text))
 
--- `kinds K roots R`
-abbrev pub sizes_line : Program → List ℕ
-sizes_line program = codes "kinds " ++ decimal (length program.kinds) ++ codes " roots " ++ decimal (length program.roots) ++ codes "\n"
-
 -- the program of a file is fetched and then read
 abbrev pub program_under : List ℕ → Plan Program
 program_under name = do
@@ -70,10 +68,10 @@ input_under name columns_name = do
   judged (λ result. result ≡ Ok (program, columns))
 
 -- what `check` prints
-abbrev pub sizes_under : List ℕ → Plan (List ℕ)
-sizes_under name = do
+abbrev pub kinds_under : List ℕ → Plan (List ℕ)
+kinds_under name = do
   program ← valid_under name
-  judged (λ result. result ≡ Ok (sizes_line program))
+  judged (λ result. result ≡ Ok (lines_text (check_lines program)))
 
 -- what `print` prints, of a program that need not be valid
 abbrev pub text_under : List ℕ → Plan (List ℕ)

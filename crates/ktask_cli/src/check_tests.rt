@@ -85,19 +85,23 @@ fn a_future_that_is_got_is_settled_on_each_way(rt: HostRuntime) -> Result<(), Fa
             Some((16, 2, "a")),
         ),
         (
-            "again more behind @p\nstate more holds @p settled @p\nif n < 2 goto l\nspawn @p leaf 1\nlabel l\nget x @p\ndone x\nend\n",
+            "again more behind @p\nstate more holds @p settled @p\nif n < 2 goto l\n\
+                spawn @p leaf 1\nlabel l\nget x @p\ndone x\nend\n",
             Some((20, 2, "p")),
         ),
         (
-            "again more behind @p\nstate more holds @p settled @p\nspawn @p leaf 1\nget x @p\ndone x\nend\n",
+            "again more behind @p\nstate more holds @p settled @p\nspawn @p leaf 1\nget x @p\n\
+                done x\nend\n",
             Some((18, 2, "p")),
         ),
         (
-            "all @g @p\nagain more behind @g\nstate more holds @g @p settled @g\nget x @p\ndone x\nend\n",
+            "all @g @p\nagain more behind @g\nstate more holds @g @p settled @g\nget x @p\n\
+                done x\nend\n",
             Some((18, 2, "p")),
         ),
         (
-            "again more behind @p\nstate more holds @p settled @p\nget x @p\nall @p @p\nget x @p\ndone x\nend\n",
+            "again more behind @p\nstate more holds @p settled @p\nget x @p\nall @p @p\nget x @p\n\
+                done x\nend\n",
             Some((19, 2, "p")),
         ),
         (
@@ -160,7 +164,8 @@ fn a_state_gets_what_it_needs(rt: HostRuntime) -> Result<(), Fail> {
             Some((15, 4, "a")),
         ),
         (
-            "if n < 2 goto l\nspawn @a leaf 1\nlabel l\nagain more\nstate more holds @a\ndone 0\nend\n",
+            "if n < 2 goto l\nspawn @a leaf 1\nlabel l\nagain more\nstate more holds @a\ndone 0\n\
+                end\n",
             Some((18, 4, "a")),
         ),
         ("spawn @a wait @p\ndone 0\nend\n", Some((15, 4, "p"))),
@@ -186,7 +191,8 @@ fn a_state_gets_what_it_needs(rt: HostRuntime) -> Result<(), Fail> {
 #[test]
 fn a_kind_has_at_most_63_variables(rt: HostRuntime) -> Result<(), Fail> {
     let many =
-        " a0 a1 a2 a3 a4 a5 a6 a7 a8 a9 b0 b1 b2 b3 b4 b5 b6 b7 b8 b9 c0 c1 c2 c3 c4 c5 c6 c7 c8 c9 \
+        " a0 a1 a2 a3 a4 a5 a6 a7 a8 a9 b0 b1 b2 b3 b4 b5 b6 b7 b8 b9 c0 c1 c2 c3 c4 c5 c6 c7 c8 \
+            c9 \
         d0 d1 d2 d3 d4 d5 d6 d7 d8 d9 e0 e1 e2 e3 e4 e5 e6 e7 e8 e9 f0 f1 f2 f3 f4 f5 f6 f7 f8 f9";
     let rows: [(&str, &str, Verdict); 5] = [
         (
@@ -228,16 +234,20 @@ fn a_kind_has_at_most_63_variables(rt: HostRuntime) -> Result<(), Fail> {
 fn sound_programs_are_valid(rt: HostRuntime) -> Result<(), Fail> {
     let rows = [
         // the members of an aggregate settle with it
-        "spawn @a leaf 1\nall @g @a @p\nagain more behind @g\nstate more holds @a @p settled @a @p\nget x @a\nget x @p\ndone x\nend\n",
+        "spawn @a leaf 1\nall @g @a @p\nagain more behind @g\n\
+            state more holds @a @p settled @a @p\nget x @a\nget x @p\ndone x\nend\n",
         // a copy of an aggregate has its members
         "spawn @a leaf 1\nall @g @a @p\ncopy @b @g\nspawn @g leaf 1\nagain more behind @b\n\
             state more holds @a @p settled @a @p\ndone 0\nend\n",
         // settled on both ways
-        "again more behind @p\nstate more holds @p settled @p\nif n < 2 goto l\ncopy @a @p\ngoto m\nlabel l\ncopy @a @p\nlabel m\nget x @a\ndone x\nend\n",
+        "again more behind @p\nstate more holds @p settled @p\nif n < 2 goto l\ncopy @a @p\n\
+            goto m\nlabel l\ncopy @a @p\nlabel m\nget x @a\ndone x\nend\n",
         // a predecessor settles itself for what it is passed to
-        "spawn @a leaf 1\nspawn @b wait @a behind @a\ndone 0\nend\nroot r leaf 1\nroot q wait @r behind @r\n",
+        "spawn @a leaf 1\nspawn @b wait @a behind @a\ndone 0\nend\nroot r leaf 1\n\
+            root q wait @r behind @r\n",
         // three jumps to one label
-        "spawn @a leaf 1\nif n < 2 goto l\nif n < 3 goto l\nspawn @b leaf 2\ngoto l\nlabel l\ndrop @a\ndone 0\nend\n",
+        "spawn @a leaf 1\nif n < 2 goto l\nif n < 3 goto l\nspawn @b leaf 2\ngoto l\nlabel l\n\
+            drop @a\ndone 0\nend\n",
         // the members of a predecessor settle what is passed
         "spawn @a leaf 1\nall @g @a\nspawn @b wait @a behind @g\ndone 0\nend\n",
     ];

@@ -1,18 +1,20 @@
 //! The tool itself: what it does with its words, and how it refuses.
 #![tactic(auto)]
 
+mod bench;
 #[cfg(test)]
 mod check_tests;
-pub mod choice;
 mod columns;
-mod default_plan;
 mod fault_line;
 pub mod fetch_file;
+mod help;
 pub mod outcome;
 mod plain;
 mod program;
 pub mod refuse;
+mod report;
 mod run;
+mod run_plan;
 mod run_status;
 pub mod stop;
 #[cfg(test)]

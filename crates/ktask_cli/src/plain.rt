@@ -2,50 +2,45 @@ ghost use Rattle.std.specs.Result.{result_map_both};
 ghost use Rattle.std.specs.Prelude.{Ok, ◌≡◌, None, map, string_bytes};
 ghost use Rattle.task_syntax.specs.Form.{IsWellFormed};
 ghost use Rattle.task_writer.specs.Text.{text_of};
-ghost use Rattle.ktask_cli.specs.Choice.{choice_of, chosen, plain_of};
-ghost use Rattle.ktask_cli.specs.Outcome.{Does, Reaches, Prints, plain_answer};
+ghost use Rattle.tool_words.specs.Choice.{choice_of, choice_seen, run_seen};
+ghost use Rattle.ktask_cli.specs.Order.{order_of};
+ghost use Rattle.ktask_cli.specs.Outcome.{Does, DoesChosen, Reaches, Prints, RunsUntold, plain_answer, plain_chosen, plain_of};
 ghost use Rattle.ktask_cli.specs.Plan.{OrWants};
-ghost use Rattle.ktask_cli.specs.Ready.{sizes_line, sizes_under, text_under};
+ghost use Rattle.ktask_cli.specs.Ready.{input_under, kinds_under, text_under};
 ghost use Rattle.ktask_cli.specs.Statuses.{StatusHasCause};
+ghost use Rattle.ktask_cli.specs.Stop.{named_for};
 
-use crate::choice::{Choice, Command, choose};
+use crate::help::HELP;
 use crate::program::{fetch_program, fetch_valid};
 use crate::refuse::refuse;
+use crate::report::report;
+use crate::run::{fetch_and_run, named_for};
 use crate::stop::Stop;
-use crate::write_text::print;
-use itoa::Buffer;
+use crate::write_text::{print, status_written};
+use run_report::write_check;
 use std::alloc::Global;
 use task_syntax::{Memory, Program};
 use task_writer::write_program;
-use tool_io::{Line, Shelf, Sink};
+use tool_io::{Shelf, Sink};
+use tool_words::{Choice, RunWords, WordsError, choose};
 
-/// The line that tells how many kinds and roots a program has, with its line end.
-fn sizes_line(program: &Program) -> Line
-    ensures { result ≡ sizes_line program.now }
-{
-    let mut line = Line::new();
-    line.push(b"kinds ");
-    line.push(Buffer::new().format(program.kinds.len()).as_bytes());
-    line.push(b" roots ");
-    line.push(Buffer::new().format(program.roots.len()).as_bytes());
-    line.push(b"\n");
-    line
-}
-
-/// Checks the program under a name, and prints how many kinds and roots it has.
-fn print_sizes<S: Shelf, O: Sink, E: Sink>(
+/// Checks the program under a name, and prints its kinds.
+fn print_kinds<S: Shelf, O: Sink, E: Sink>(
     alloc: Global,
     name: &str,
     shelf: &mut S,
     out: &mut O,
     err: &mut E,
 ) -> u8
-    ensures { Reaches (sizes_under name.now) Prints (λ stop. name.now)
+    ensures { Reaches (kinds_under name.now) Prints (λ stop. name.now)
         (S.seen shelf.old) (S.seen shelf.new)
         (plain_answer result (O.seen out.old) (O.seen out.new) (E.seen err.old) (E.seen err.new)) }
 {
     match fetch_valid(alloc, name, shelf) {
-        Ok(checked) => print(sizes_line(checked.program()).as_bytes(), out, err),
+        Ok(checked) => {
+            let written = write_check(&checked, out);
+            status_written(written, 0, err)
+        }
         Err(stop) => refuse(alloc, stop, name, err),
     }
 }
@@ -92,43 +87,61 @@ fn print_program<S: Shelf, O: Sink, E: Sink>(
     }
 }
 
-/// Does what was chosen, where that is no run.
-pub(crate) fn do_plain<S: Shelf, O: Sink, E: Sink>(
+/// Runs a program, and reports how each root ended.
+fn print_run<S: Shelf, O: Sink, E: Sink>(
     alloc: Global,
-    choice: Option<Choice<'_>>,
+    run: &RunWords<'_>,
     shelf: &mut S,
     out: &mut O,
     err: &mut E,
 ) -> u8
-    ensures { Does (plain_of (chosen choice.entry)) (S.seen shelf.old) (S.seen shelf.new)
+    ensures { Reaches (input_under (run_seen run.now).program (run_seen run.now).columns)
+        (λ input. RunsUntold (order_of (run_seen run.now) input))
+        (named_for (run_seen run.now).program (run_seen run.now).columns)
+        (S.seen shelf.old) (S.seen shelf.new)
         (plain_answer result (O.seen out.old) (O.seen out.new) (E.seen err.old) (E.seen err.new)) }
 {
-    match choice {
-        Some(
-            Choice {
-                command: Command::Check,
-                program,
-                ..
-            },
-        ) => print_sizes(alloc, program, shelf, out, err),
-        Some(
-            Choice {
-                command: Command::Print,
-                program,
-                ..
-            },
-        ) => print_program(alloc, program, shelf, out, err),
-        _ => refuse(alloc, Stop::WordsRefused, "", err),
+    match fetch_and_run(alloc, run, shelf) {
+        Ok(ran) => report(b"", &ran, run.trace, out, err),
+        Err(stop) => {
+            let name = named_for(&stop, run);
+            refuse(alloc, stop, name, err)
+        }
     }
 }
 
-/// Does what the words ask for, where that is no run: `check PROGRAM` fetches, reads and checks the program, and
-/// prints how many kinds and roots it has; `print PROGRAM` fetches and reads it, and prints its canonical text. All
-/// other words are refused.
+/// Does what was chosen, but for `run` and `bench`, whose words are refused.
+pub(crate) fn do_plain<S: Shelf, O: Sink, E: Sink>(
+    alloc: Global,
+    chosen: Result<Choice<'_>, WordsError>,
+    shelf: &mut S,
+    out: &mut O,
+    err: &mut E,
+) -> u8
+    ensures { DoesChosen
+        (plain_chosen (result_map_both choice_seen (λ error. error) chosen.entry))
+        (S.seen shelf.old) (S.seen shelf.new)
+        (plain_answer result (O.seen out.old) (O.seen out.new) (E.seen err.old) (E.seen err.new)) }
+{
+    match chosen {
+        Ok(Choice::Plain(run)) => print_run(alloc, &run, shelf, out, err),
+        Ok(Choice::Check(program)) => print_kinds(alloc, program, shelf, out, err),
+        Ok(Choice::Print(program)) => print_program(alloc, program, shelf, out, err),
+        Ok(Choice::Help) => print(HELP, out, err),
+        Ok(Choice::Run(_) | Choice::Bench(_)) | Err(WordsError::Refused) => {
+            refuse(alloc, Stop::WordsRefused, "", err)
+        }
+        Err(WordsError::Memory) => refuse(alloc, Stop::WantOfMemory, "", err),
+    }
+}
+
+/// Does what the words ask for, where that needs one thread: `plain PROGRAM [COLUMNS]`, which takes
+/// the options of `run` but for `--workers`, runs a program on one thread and writes its report;
+/// `check PROGRAM` fetches, reads and checks the program, and prints its kinds and how many kinds and
+/// roots it has; `print PROGRAM` fetches and reads it, and prints its canonical text; `help` prints
+/// how each command is called. All other words are refused.
 ///
-/// The exit status is 0 where it is done, 2 for words that are refused, 5 for a program that is, 7 for a file that
-/// cannot be read or is too long, 8 for a fault of `out`, and 9 for want of memory. Where it is not 0, one line on `err`
-/// says why.
+/// The exit statuses and the lines on `err` are those of `run_tool`.
 pub fn plain_tool<S: Shelf, O: Sink, E: Sink>(
     alloc: Global,
     words: &[String],
@@ -143,5 +156,5 @@ pub fn plain_tool<S: Shelf, O: Sink, E: Sink>(
         (S.seen shelf.old) (S.seen shelf.new)
         (plain_answer result (O.seen out.old) (O.seen out.new) (E.seen err.old) (E.seen err.new)) }
 {
-    do_plain(alloc, choose(words), shelf, out, err)
+    do_plain(alloc, choose(alloc, words), shelf, out, err)
 }

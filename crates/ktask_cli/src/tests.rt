@@ -1,4 +1,3 @@
-use crate::choice::{Command, choose};
 use crate::fetch_file::fetch_file;
 use crate::refuse::refuse;
 use crate::stop::{InputFile, Stop};
@@ -12,40 +11,6 @@ fn text(alloc: Global, bytes: &str) -> Result<String, AllocError> {
     let mut text = String::new(alloc);
     text.push_str(bytes)?;
     Ok(text)
-}
-
-#[test]
-fn words_are_a_command_and_one_more(rt: HostRuntime) -> Result<(), Fail> {
-    let rows = [
-        (["run", "a"].as_slice(), Some((Command::Run, "a", None))),
-        (
-            ["run", "a", "b"].as_slice(),
-            Some((Command::Run, "a", Some("b"))),
-        ),
-        (["check", "b"].as_slice(), Some((Command::Check, "b", None))),
-        (["print", "c"].as_slice(), Some((Command::Print, "c", None))),
-        (["run"].as_slice(), None),
-        (["run", "a", "b", "c"].as_slice(), None),
-        (["check", "a", "a"].as_slice(), None),
-        (["walk", "a"].as_slice(), None),
-        ([].as_slice(), None),
-    ];
-    for (given, wanted) in rows {
-        let mut words = Vec::new(rt.alloc());
-        for word in given {
-            words.push(text(rt.alloc(), word)?)?;
-        }
-        match (choose(&words), wanted) {
-            (Some(choice), Some((command, program, columns))) => {
-                assert_eq!(rt; choice.command, command);
-                assert_eq!(rt; choice.program, program);
-                assert_eq!(rt; choice.columns, columns);
-            }
-            (None, None) => {}
-            _ => assert!(rt; false),
-        }
-    }
-    Ok(())
 }
 
 #[test]

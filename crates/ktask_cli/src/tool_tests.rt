@@ -8,12 +8,15 @@ use tool_io::{MemoryShelf, MemorySink, OutSink};
 const ONE: &str = "ktask 1\nkind one\nstate start\n  done 1\nend\nroot r one\n";
 
 const ROOTS: &str = "ktask 1\nkind below\n  var x\nstate start\n  sub x 0 1\n  done x\nend\n\
-    kind plus a b\n  var x\nstate start\n  add x a b\n  done x\nend\nroot under below\nroot fine plus 3 4\n";
+    kind plus a b\n  var x\nstate start\n  add x a b\n  done x\nend\nroot under below\n\
+    root fine plus 3 4\n";
 
 const FIB: &str =
-    "ktask 1\nkind fib n\n  var x y @a @b\nstate start\n  if n < 2 goto small\n  sub x n 1\n  sub y n 2\n\
+    "ktask 1\nkind fib n\n  var x y @a @b\nstate start\n  if n < 2 goto small\n  sub x n 1\n\
+        sub y n 2\n\
     spawn @a fib x\n  spawn @b fib y\n  again first behind @a\n  label small\n  done n\n\
-    state first holds @a @b settled @a\n  again sum behind @b\nstate sum holds @a @b settled @a @b\n\
+    state first holds @a @b settled @a\n  again sum behind @b\n\
+    state sum holds @a @b settled @a @b\n\
     get x @a\n  get y @b\n  add x x y\n  done x\nend\nroot r fib 10\n";
 
 const WIDE: &str = "ktask 1\nkind one\nstate start\n  set x 1\n  done x\nend\n";
@@ -22,8 +25,10 @@ const MUL: &str =
     "ktask 1\nkind one\n  var x\nstate start\n  mul x 2 3\n  done x\nend\nroot r one\n";
 
 const ALL: &str = "ktask 1\nkind fib n\n  var x y @a @b @g\nstate start\n  if n < 2 goto small\n\
-    sub x n 1\n  sub y n 2\n  spawn @a fib x\n  spawn @b fib y\n  all @g @a @b\n  again sum behind @g\n\
-    label small\n  done n\nstate sum holds @a @b settled @a @b\n  get x @a\n  get y @b\n  add x x y\n\
+    sub x n 1\n  sub y n 2\n  spawn @a fib x\n  spawn @b fib y\n  all @g @a @b\n\
+    again sum behind @g\n\
+    label small\n  done n\nstate sum holds @a @b settled @a @b\n  get x @a\n  get y @b\n\
+    add x x y\n\
     done x\nend\nroot r fib 2\n";
 
 const EARLY_GET: &str =
@@ -43,8 +48,10 @@ const UNSETTLED_ROOT: &str =
     state start holds @p settled @p\n  get x @p\n  done x\nend\nroot p one\nroot s reader @p\n";
 
 const LARGE: &str = "ktask 1\nkind big\n\
-    var v0 v1 v2 v3 v4 v5 v6 v7 v8 v9 v10 v11 v12 v13 v14 v15 v16 v17 v18 v19 v20 v21 v22 v23 v24 v25 v26 v27 v28 v29 v30 v31\n\
-    var v32 v33 v34 v35 v36 v37 v38 v39 v40 v41 v42 v43 v44 v45 v46 v47 v48 v49 v50 v51 v52 v53 v54 v55 v56 v57 v58 v59 v60 v61 v62 v63\nstate s\n  done 0\nend\n";
+    var v0 v1 v2 v3 v4 v5 v6 v7 v8 v9 v10 v11 v12 v13 v14 v15 v16 v17 v18 v19 v20 v21 v22 v23 v24 \
+    v25 v26 v27 v28 v29 v30 v31\n\
+    var v32 v33 v34 v35 v36 v37 v38 v39 v40 v41 v42 v43 v44 v45 v46 v47 v48 v49 v50 v51 v52 v53 \
+    v54 v55 v56 v57 v58 v59 v60 v61 v62 v63\nstate s\n  done 0\nend\n";
 
 // Not valid, which `print` does not ask.
 const SPACED: &str =
@@ -55,11 +62,13 @@ const CANONICAL: &str =
     "ktask 1\nkind one\nstate start\ndone 7\nend\nkind bad\nvar @a x\nstate s\nget x @a\n\
     done x\nend\nroot p one\n";
 
-const SUM: &str =
-    "ktask 1\nkind sum lo hi\n  var m x @a @b @g\nstate start\n  sub m hi lo\n  if m == 0 goto none\n\
-    if m == 1 goto one\n  div m m 2\n  add m lo m\n  spawn @a sum lo m\n  spawn @b sum m hi\n  all @g @a @b\n\
+const SUM: &str = "ktask 1\nkind sum lo hi\n  var m x @a @b @g\nstate start\n  sub m hi lo\n\
+        if m == 0 goto none\n\
+    if m == 1 goto one\n  div m m 2\n  add m lo m\n  spawn @a sum lo m\n  spawn @b sum m hi\n\
+    all @g @a @b\n\
     again both behind @g\n  label one\n  cell x price lo\n  done x\n  label none\n  done 0\n\
-    state both holds @a @b settled @a @b\n  get x @a\n  get m @b\n  add x x m\n  done x\nend\nkind main\n\
+    state both holds @a @b settled @a @b\n  get x @a\n  get m @b\n  add x x m\n  done x\nend\n\
+    kind main\n\
     var n x @a\nstate start\n  rows n price\n  spawn @a sum 0 n\n  again out behind @a\n\
     state out holds @a settled @a\n  get x @a\n  done x\nend\nroot total main\n";
 
@@ -71,7 +80,8 @@ const ONE_REPORT: &str = "root r 1\nactivations 1\ntasks 1\nnulls 0\nheld 1 0 0 
 
 // Two tasks that are called again without end, and a root that names what the second gives.
 const SPIN: &str = "ktask 1\nkind spin\nstate start\n  again start\nend\nkind reader @p\n  var x\n\
-    state start holds @p settled @p\n  get x @p\n  done x\nend\nroot r spin\nroot s reader @r behind @r\n";
+    state start holds @p settled @p\n  get x @p\n  done x\nend\nroot r spin\n\
+    root s reader @r behind @r\n";
 
 // A task that spawns wide tasks behind the gate, which opens only when there is nothing else to do.
 const FILL: &str = "ktask 1\nkind gate\nstate start\n  done 1\nend\nkind wide\n\
@@ -148,7 +158,8 @@ fn programs_are_run_checked_or_refused(rt: HostRuntime) -> Result<(), Fail> {
             "run",
             ROOTS,
             1,
-            "root under trap overflow\nroot fine 7\nactivations 2\ntasks 2\nnulls 0\nheld 2 0 0 0\n",
+            "root under trap overflow\nroot fine 7\nactivations 2\ntasks 2\nnulls 0\n\
+                held 2 0 0 0\n",
             "",
         ),
         (
@@ -182,8 +193,20 @@ fn programs_are_run_checked_or_refused(rt: HostRuntime) -> Result<(), Fail> {
             "root r 1\nactivations 6\ntasks 4\nnulls 0\nheld 1 0 0 0\n",
             "",
         ),
-        ("check", ALL, 0, "kinds 1 roots 1\n", ""),
-        ("check", ROOTS, 0, "kinds 2 roots 2\n", ""),
+        (
+            "check",
+            ALL,
+            0,
+            "kind fib class 0 words 7\nkinds 1 roots 1\n",
+            "",
+        ),
+        (
+            "check",
+            ROOTS,
+            0,
+            "kind below class 0 words 2\nkind plus class 0 words 4\nkinds 2 roots 2\n",
+            "",
+        ),
         ("check", "ktask 1\n", 0, "kinds 0 roots 0\n", ""),
         ("check", "", 5, "", no_header),
         ("print", SPACED, 0, CANONICAL, ""),
@@ -207,28 +230,32 @@ fn programs_are_run_checked_or_refused(rt: HostRuntime) -> Result<(), Fail> {
     Ok(())
 }
 
-// The report of `FILL`: the first superblock has the two roots, and each other one is full of wide tasks.
-fn full_report(alloc: Global) -> Result<String, AllocError> {
-    let mut text = string_of(
-        alloc,
-        "root g 1\nroot f null\nactivations 32642\ntasks 16322\nnulls 1\nheld 2 0 0 0\ncause f null 2\n\
-        evidence class 3\nsuperblock 0 class 0 2 of 512\n",
-    )?;
-    for superblock in 1..256 {
-        let line = format!(in alloc; "superblock {superblock} class 3 64 of 64\n")?;
-        text.push_str(line.as_str())?;
-    }
-    Ok(text)
-}
-
 #[test]
 fn roots_are_cut_where_the_pool_is_full_or_the_limit_met(rt: HostRuntime) -> Result<(), Fail> {
-    let full = full_report(rt.alloc())?;
-    let limit = "root r limit\nroot s limit\nactivations 1000000\ntasks 2\nnulls 0\nheld 2 0 0 0\n\
+    let full = "root g 1\nroot f null\nactivations 18\ntasks 10\nnulls 1\nheld 2 0 0 0\n\
+        cause f null 2\nevidence class 3\nsuperblock 0 class 0 2 of 64\n\
+        superblock 1 class 3 8 of 8\n";
+    let limit = "root r limit\nroot s limit\nactivations 1000\ntasks 2\nnulls 0\nheld 2 0 0 0\n\
         cause r limit 1\ncause s limit 2 1\n";
-    for (program, status, out) in [(FILL, 3, full.as_str()), (SPIN, 4, limit)] {
+    let rows = [
+        (
+            ["run", "p", "--superblocks", "2", "--units=64"].as_slice(),
+            FILL,
+            3,
+            full,
+        ),
+        (
+            ["plain", "--superblocks=2", "--units=64", "p"].as_slice(),
+            FILL,
+            3,
+            full,
+        ),
+        (["run", "p", "--limit=1000"].as_slice(), SPIN, 4, limit),
+        (["plain", "p", "--limit=1000"].as_slice(), SPIN, 4, limit),
+    ];
+    for (words, program, status, out) in rows {
         let content = vec_of(rt.alloc(), program.as_bytes())?;
-        let told = run_over(rt.alloc(), &["run", "p"], content, &[])?;
+        let told = run_over(rt.alloc(), words, content, &[])?;
         assert_eq!(rt; told.status, status);
         assert_eq!(rt; told.out.bytes.as_slice(), out.as_bytes());
         assert_eq!(rt; told.err.calls, 0);
@@ -455,7 +482,13 @@ fn a_fetch_that_failed_is_not_tried_again(rt: HostRuntime) -> Result<(), Fail> {
 
 #[test]
 fn the_plain_tool_does_all_but_runs(rt: HostRuntime) -> Result<(), Fail> {
-    for (command, status, text) in [("run", 2, ""), ("check", 0, "kinds 1 roots 1\n")] {
+    let rows = [
+        ("run", 2, ""),
+        ("bench", 2, ""),
+        ("plain", 0, ONE_REPORT),
+        ("check", 0, "kind one class 0 words 1\nkinds 1 roots 1\n"),
+    ];
+    for (command, status, text) in rows {
         let mut shelf = shelf_of(rt.alloc(), ONE)?;
         let words = vec![in rt.alloc();
             string_of(rt.alloc(), command)?,
@@ -566,6 +599,75 @@ fn programs_see_columns(rt: HostRuntime) -> Result<(), Fail> {
         assert_eq!(rt; out.bytes.as_slice(), told.as_bytes());
         assert_eq!(rt; err.bytes.as_slice(), why.as_bytes());
         assert_eq!(rt; shelf.calls, calls);
+    }
+    Ok(())
+}
+
+#[test]
+fn a_program_of_a_family_is_run_without_a_file(rt: HostRuntime) -> Result<(), Fail> {
+    let chain = "bench chain 3\nroot r 6\nactivations 10\ntasks 4\nnulls 0\nheld 1 0 0 0\n";
+    let rows = [
+        (
+            ["bench", "chain", "3"].as_slice(),
+            [].as_slice(),
+            0,
+            chain,
+            "",
+        ),
+        (
+            ["bench", "--workers=64", "chain", "003"].as_slice(),
+            [].as_slice(),
+            0,
+            chain,
+            "",
+        ),
+        (
+            ["bench", "chain", "100001"].as_slice(),
+            [].as_slice(),
+            2,
+            "",
+            "ktask: words refused, see ktask help\n",
+        ),
+        (
+            ["bench", "fib", "1"].as_slice(),
+            [1].as_slice(),
+            8,
+            "",
+            "ktask: write fault\n",
+        ),
+        (
+            ["bench", "fib", "1"].as_slice(),
+            [2].as_slice(),
+            8,
+            "bench fib 1\n",
+            "ktask: write fault\n",
+        ),
+    ];
+    for (words, fail, status, out, err) in rows {
+        let told = run_over(rt.alloc(), words, Vec::new(rt.alloc()), fail)?;
+        assert_eq!(rt; told.status, status);
+        assert_eq!(rt; told.out.bytes.as_slice(), out.as_bytes());
+        assert_eq!(rt; told.err.bytes.as_slice(), err.as_bytes());
+        assert_eq!(rt; told.shelf.calls, 0);
+    }
+    Ok(())
+}
+
+#[test]
+fn the_trace_is_written_where_it_is_asked_for(rt: HostRuntime) -> Result<(), Fail> {
+    let traced = "root r 1\nactivations 1\ntasks 1\nnulls 0\nheld 1 0 0 0\n\
+        activation 1 task 1 after - start 1\ntask 1 finish 2 cause -\n";
+    let rows = [
+        (["run", "p", "--trace"].as_slice(), traced),
+        (["plain", "--trace", "p"].as_slice(), traced),
+        (["run", "p", "--limit=1"].as_slice(), ONE_REPORT),
+        (["plain", "--limit=1", "p"].as_slice(), ONE_REPORT),
+    ];
+    for (words, out) in rows {
+        let content = vec_of(rt.alloc(), ONE.as_bytes())?;
+        let told = run_over(rt.alloc(), words, content, &[])?;
+        assert_eq!(rt; told.status, 0);
+        assert_eq!(rt; told.out.bytes.as_slice(), out.as_bytes());
     }
     Ok(())
 }

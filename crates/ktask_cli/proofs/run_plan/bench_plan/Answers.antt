@@ -1,5 +1,5 @@
-use Rattle.std.proofs.Common.{arith, refl}
-use Rattle.ktask_cli.proofs.default_plan.default_plan.Goals as goal
+use Rattle.std.proofs.Common.{arith, refl, rules}
+use Rattle.ktask_cli.proofs.run_plan.bench_plan.Goals as goal
 
 pub unwrap-geometry-requires : goal.unwrap-geometry-requires
 unwrap-geometry-requires c = c.new.ensures.exactly.1 (record {

@@ -1,0 +1,4 @@
+pub mod Parsed
+pub mod Ranges
+pub mod Rows
+pub mod Runs

@@ -1,0 +1,10 @@
+use Rattle.std.proofs.Common.{rules, refl}
+use Rattle.clap.specs.Matches.{found_of}
+use Rattle.tool_words.proofs.Rows.{first_got, none_got}
+use Rattle.tool_words.proofs.numbers.number_at.Goals as goal
+
+pub returns-in-Some : goal.returns-in-Some
+returns-in-Some c = rw (first_got (found_of c.args.matches.now) c.args.name.now c.in-Some.word.now c.in-Some.ensures) (search rules)
+
+pub returns-in-None : goal.returns-in-None
+returns-in-None c = rw (none_got (found_of c.args.matches.now) c.args.name.now c.in-None.ensures) refl
