@@ -73,11 +73,14 @@ fn spin_all<R: Threads + Wait + Sync>(rt: &R, shared: &Shared, pass: Pass, threa
     let (kept, other) = shared.split(pass);
     let one = || -> Pass
         requires { IsSync R.row × IsOf shared.now other × HasOnlyBlocks (view other) }
-        ensures { IsOf shared.entry.now result × HasOnlyBlocks (view result) × (result.splits ≡ other.splits) }
+        ensures { IsOf shared.entry.now result × HasOnlyBlocks (view result)
+            × (result.splits ≡ other.splits) }
     { spin(rt, shared, other) };
     let rest = || -> Pass
-        requires { IsSync R.row × IsOf shared.now kept × HasOnlyBlocks (view kept) × (threads ≤ kept.splits + 2) × (1 < threads) }
-        ensures { IsOf shared.entry.now result × HasOnlyBlocks (view result) × (result.splits ≡ kept.splits) }
+        requires { IsSync R.row × IsOf shared.now kept × HasOnlyBlocks (view kept)
+            × (threads ≤ kept.splits + 2) × (1 < threads) }
+        ensures { IsOf shared.entry.now result × HasOnlyBlocks (view result)
+            × (result.splits ≡ kept.splits) }
     { spin_all(rt, shared, kept, threads - 1) };
     let (kept, other) = join(rt, rest, one);
     shared.join(kept, other)

@@ -5,6 +5,7 @@ use Rattle.kt_words.specs.declared.plan.Plan.{Plan}
 use Rattle.kt_words.specs.Capacity.{block_units}
 use Rattle.kt_words.proofs.GeometryFacts.{blocks_end_inside}
 use Rattle.table_core.specs.Addresses.{state, refs, head, next, task, outcome, root, frame, is_there, units_of}
+use Rattle.table_core.specs.Unbuilt.{is_built}
 use Rattle.table_core.specs.Pool.{superblock_of, bit_of, IsBlock}
 use Rattle.table_core.specs.Holdings.{Made, Run}
 use Rattle.table_core.specs.Own.{is_inside, is_word_of, is_result_of, is_own}
@@ -29,6 +30,12 @@ module _ (g : Plan) where
   pub refs-there : (u : ℕ) → u < units_of g → is_there g (refs u) ≡ true
   refs-there u near = there_from g (refs u) near (omega arith)
 
+  pub head-there : (u : ℕ) → u < units_of g → is_there g (head u) ≡ true
+  head-there u near = there_from g (head u) near (omega arith)
+
+  pub next-there : (u : ℕ) → u < units_of g → is_there g (next u) ≡ true
+  next-there u near = there_from g (next u) near (omega arith)
+
   pub root-there : (r : ℕ) → r < 16 → is_there g (root r) ≡ true
   root-there r near = there_from g (root r) near (omega arith)
 
@@ -39,6 +46,15 @@ module _ (g : Plan) where
   own-there u own_word.Result at = there_from g (outcome u) at (omega arith)
   own-there u own_word.References at = there_from g (refs u) at (omega arith)
   own-there u own_word.Head at = there_from g (head u) at (omega arith)
+
+  -- steps write each word of a record
+  pub own-built : (word : OwnWord) (u : ℕ) → is_built (word_of_record word u) ≡ true
+  own-built (own_word.Frame j) u = refl
+  own-built own_word.Next u = refl
+  own-built own_word.Task u = refl
+  own-built own_word.Result u = refl
+  own-built own_word.References u = refl
+  own-built own_word.Head u = refl
 
   -- a block ends inside the table
   block-inside : (u c : ℕ) → IsBlock g u c → u + block_units c ≤ units_of g

@@ -10,21 +10,27 @@ use Rattle.kt_words.specs.declared.super_word.SuperWord.{SuperWord}
 use Rattle.kt_words.proofs.SuperWordFacts.{super_word_says_its_value}
 use Rattle.table_core.specs.Pool.{cap, superblock_of, bit_of, IsBlock}
 use Rattle.table_core.specs.Parts.{Keeps}
-use Rattle.table_core.specs.Steps.{Tells}
+use Rattle.table_core.specs.Steps.{Tells, TellsStored}
 use Rattle.table_core.proofs.PoolFacts.{superblock_near, bit_below}
 use Rattle.std.proofs.Math.Nat.{div-le_self}
 use Rattle.table_core.specs.declared.setup.Setup.{Setup}
 use Rattle.table_core.specs.declared.view.View.{View}
 use Rattle.table_core.proofs.AddressFacts.{address-in, there_from}
-use Rattle.table_core.proofs.Rule.{holds_at, allows}
-use Rattle.step_table.specs.Seats.{LiesAt}
+use Rattle.table_core.proofs.Rule.{holds_at, allows, stores}
+use Rattle.step_table.specs.Seats.{LiesAt, always}
 use Rattle.step_table.specs.Passes.{TakesOne}
 
 pub may_step : (g key : Setup) (words slots id word : ℕ) (me : Me (Unit {0}) View) (a : Addr) (f : ℕ → ℕ) (told : ℕ → View → Type 0)
     → key ≡ g → words ≡ words_of g.plan → LiesAt g.plan a word → Keeps g id me.0 a f told
-    → (word < words) × Allows (holds_at key) slots id me word f (Tells told me)
+    → (word < words) × Allows (holds_at key) slots id me word f (Tells a told me)
 may_step g key words slots id word me a f told keyed sized lies keeps =
-    (omega (arith, lies.place, sized, address-in g.plan a lies.there), allows g key slots id word me a f told keyed lies.place lies.there keeps)
+    (omega (arith, lies.place, sized, address-in g.plan a lies.there), allows g key slots id word me a f told keyed lies.place lies.there lies.built keeps)
+
+pub may_store : (g key : Setup) (words slots id word new : ℕ) (me : Me (Unit {0}) View) (a : Addr) (told : ℕ → View → Type 0)
+    → key ≡ g → words ≡ words_of g.plan → LiesAt g.plan a word → Keeps g id me.0 a (always new) (λ n. told new)
+    → (word < words) × Allows (holds_at key) slots id me word (always new) (λ n. TellsStored a told me new)
+may_store g key words slots id word new me a told keyed sized lies keeps =
+    (omega (arith, lies.place, sized, address-in g.plan a lies.there), stores g key slots id word new me a told keyed lies.place lies.there lies.built keeps)
 
 -- the words of the pool are there
 pub super-there : (g : Plan) (i : ℕ) → i < g.geometry.superblocks → is_there g (super i) ≡ true

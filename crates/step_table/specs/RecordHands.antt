@@ -1,5 +1,5 @@
 -- What the values of records name in a pass's hand, and which of their words may be written and read.
-use Rattle.std.specs.Prelude.{◌≡◌, ℕ, ◌+◌, ◌*◌, ◌<◌, ◌≤◌, ◌⊎◌}
+use Rattle.std.specs.Prelude.{◌≡◌, ℕ, ◌+◌, ◌*◌, ◌<◌, ◌≤◌, ◌⊎◌, true}
 use Rattle.record_core.specs.Counting.{Has, times}
 use Rattle.kt_words.specs.declared.plan.Plan.{Plan}
 use Rattle.kt_words.specs.Capacity.{block_units}
@@ -16,6 +16,10 @@ pub record HasMade (g : Plan) (unit class : ℕ) (v : View) (r : Made) : Type 0 
   pub there : Has r v.made
   pub unit_is : r.unit ≡ unit
   pub class_is : r.class ≡ class
+
+-- it has no number yet
+abbrev pub HasNew : Plan → ℕ → ℕ → View → Type 0
+HasNew g unit class v = (r : Made) × HasMade g unit class v r × (r.number ≡ 0)
 
 -- it runs
 pub record HasRun (g : Plan) (unit : ℕ) (v : View) (r : Run) : Type 0 where
@@ -34,6 +38,10 @@ pub record HasDone (g : Plan) (unit : ℕ) (v : View) (d : Done) : Type 0 where
   pub near : unit < units_of g
   pub there : Has d v.done
   pub unit_is : d.unit ≡ unit
+
+-- and its list is closed
+abbrev pub HasClosed : Plan → ℕ → View → Type 0
+HasClosed g unit v = (d : Done) × HasDone g unit v d × (d.closed ≡ true)
 
 -- the pass has a reference to it
 pub record HasFuture (g : Plan) (unit : ℕ) (v : View) : Type 0 where

@@ -1,5 +1,5 @@
 -- What the steps of asking for roots need, and what they tell.
-use Rattle.std.specs.Prelude.{◌≡◌, ℕ, ◌<◌, List, [], ◌∷◌, length}
+use Rattle.std.specs.Prelude.{◌≡◌, ℕ, ◌<◌, List, [], ◌∷◌, length, slice_get, Option}
 use Rattle.record_core.specs.Counting.{At}
 use Rattle.kt_words.specs.declared.plan.Plan.{Plan}
 use Rattle.table_core.specs.Addresses as addresses
@@ -17,7 +17,7 @@ use Rattle.step_table.specs.declared.turn.NamedRoot.TheVariants as named
 use Rattle.step_table.specs.declared.roots.RootWord.{RootWord}
 use Rattle.step_table.specs.declared.roots.RootWord.TheVariants as word
 use Rattle.step_table.specs.Passes.{view}
-use Rattle.step_table.specs.Turns.{says_of}
+use Rattle.step_table.specs.Turns.{says_of, said}
 use Rattle.step_table.specs.RecordSteps.{Refers}
 
 abbrev pub name_of : RootWord → NamedRoot
@@ -52,6 +52,10 @@ pub record MayAsk (g : Setup) (r : ℕ) (w : RootWord) (v : View) : Type 0 where
 pub record Names (r : ℕ) (w : RootWord) (old new : Pass) : Type 0 where
   pub found : ℕ
   pub view_is : view new ≡ saw (addresses.root r) found (put_root (says_of (name_of w)) (view old))
+
+-- a pass with the turn tells what is said of root r, where it was asked for
+abbrev pub TellsRoot : ℕ → View → Option NamedRoot → Type 0
+TellsRoot r v told = (asked : List RootSays) → v.turn ≡ asked ∷ [] → said told ≡ slice_get asked r
 
 -- the pass has the turn, and root r has a record, one of the table's
 pub record HasRootRecord (g : Plan) (r : ℕ) (v : View) : Type 0 where

@@ -1,8 +1,9 @@
 -- What a step on one word needs of the word and leaves of the seat.
-use Rattle.std.specs.Prelude.{◌≡◌, ℕ, ◌+◌, ◌-◌, ◌%◌, ◌^◌, true}
+use Rattle.std.specs.Prelude.{◌≡◌, ℕ, ◌+◌, ◌-◌, ◌%◌, ◌^◌, ◌∷◌, true}
 use Rattle.atomic_table.specs.declared.shared.Seat.{Seat}
 use Rattle.kt_words.specs.declared.plan.Plan.{Plan}
 use Rattle.table_core.specs.Addresses.{Addr, address, is_there}
+use Rattle.table_core.specs.Unbuilt.{is_built}
 use Rattle.table_core.specs.Parts.{Keeps}
 use Rattle.table_core.specs.declared.setup.Setup.{Setup}
 use Rattle.table_core.specs.declared.view.View.{View}
@@ -18,6 +19,10 @@ pub record IsSameSeat (old new : Seat (Unit {0}) View) : Type 0 where
 abbrev pub MayStep : Setup → Seat (Unit {0}) View → Addr → (ℕ → ℕ) → (ℕ → View → Type 0) → Type 0
 MayStep g seat a f told = Keeps g seat.id seat.me.0 a f told
 
+-- the pass has seen one step more: this word, with this number
+abbrev pub HasSeen : Addr → ℕ → View → View → Type 0
+HasSeen a found old new = new.seen ≡ (a, found) ∷ old.seen
+
 -- less k, of a number of 64 bits
 abbrev pub less_by : ℕ → ℕ → ℕ
 less_by k n = (n + (2 ^ 64 - k)) % 2 ^ 64
@@ -30,7 +35,8 @@ more_by k n = (n + k) % 2 ^ 64
 abbrev pub always : ℕ → ℕ → ℕ
 always k n = k
 
--- the word lies at this address
+-- the word lies at this address, and some kind of step writes it
 pub record LiesAt (g : Plan) (a : Addr) (word : ℕ) : Type 0 where
   pub place : word ≡ address g a
   pub there : is_there g a ≡ true
+  pub built : is_built a ≡ true

@@ -2,14 +2,17 @@
 //! rule of `table_core`, so the rule holds between any two steps of any number of threads.
 //!
 //! `shared.rt` and `pass.rt` are the table and a thread's part in it; `raw.rt` has one function for
-//! each atomic operation; `passes.rt` and `pool.rt` have one call for each kind of step. What they
-//! tell stands in `specs/Steps.antt`.
+//! each atomic operation; `passes.rt`, `pool.rt`, `records.rt`, `references.rt`, `roots.rt` and
+//! `lists.rt` have one call for each kind of step. What they tell stands in `specs/Steps.antt`,
+//! `RecordSteps.antt`, `RootSteps.antt` and `ListSteps.antt`.
 #![tactic(auto)]
 
 mod halves;
 mod last_looks;
 mod layout;
+mod lists;
 mod making;
+mod opening;
 mod order;
 mod pass;
 mod passes;
@@ -28,7 +31,7 @@ mod turn;
 
 pub use last_looks::LastLook;
 pub use pass::Pass;
-pub use record_tokens::{Finishing, Future, Linkable, Made, OwnWord, Retiring, Started};
+pub use record_tokens::{Chain, Finishing, Future, Linkable, Made, OwnWord, Retiring, Started};
 pub use roots::RootWord;
 pub use shared::Shared;
 pub use tokens::{Block, Debt, Reserved};

@@ -91,7 +91,8 @@ impl Shared {
             mask,
             &(superblock, class, bit),
         );
-        if found >> (bit % 64) & 1 == 0 {
+        let clear = found >> (bit % 64) & 1 == 0;
+        if clear {
             Ok(Block {
                 unit: superblock * units + (bit << class),
                 class,

@@ -8,7 +8,7 @@ use atomic_table::Seat;
 use table_core::View;
 
 impl Shared {
-    ghost use Rattle.step_table.specs.Seats.{IsSameSeat, LiesAt, MayStep, less_by};
+    ghost use Rattle.step_table.specs.Seats.{IsSameSeat, HasSeen, LiesAt, MayStep, less_by};
 
     pub(crate) fn load_as<W: Wish, A>(
         &self,
@@ -20,6 +20,7 @@ impl Shared {
         requires word { LiesAt self.now.setup.plan W.at word }
         requires rule { MayStep self.now.setup seat.old W.at (λ n. n) W.told }
         ensures same { IsSameSeat seat.old seat.new }
+        ensures seen { HasSeen W.at result seat.old.me.0 seat.new.me.0 }
         ensures told { W.told result seat.new.me.0 }
     {
         self.table.shared.load::<Told<W>>(seat, word)
@@ -37,6 +38,7 @@ impl Shared {
         requires word { LiesAt self.now.setup.plan W.at word }
         requires rule { MayStep self.now.setup seat.old W.at (λ n. either (n == old) new n) W.told }
         ensures same { IsSameSeat seat.old seat.new }
+        ensures seen { HasSeen W.at result seat.old.me.0 seat.new.me.0 }
         ensures told { W.told result seat.new.me.0 }
     {
         self.table
@@ -55,6 +57,7 @@ impl Shared {
         requires word { LiesAt self.now.setup.plan W.at word }
         requires rule { MayStep self.now.setup seat.old W.at (λ n. bit_or n mask) W.told }
         ensures same { IsSameSeat seat.old seat.new }
+        ensures seen { HasSeen W.at result seat.old.me.0 seat.new.me.0 }
         ensures told { W.told result seat.new.me.0 }
     {
         self.table.shared.fetch_or::<Told<W>>(seat, word, mask)
@@ -71,6 +74,7 @@ impl Shared {
         requires word { LiesAt self.now.setup.plan W.at word }
         requires rule { MayStep self.now.setup seat.old W.at (λ n. bit_and n mask) W.told }
         ensures same { IsSameSeat seat.old seat.new }
+        ensures seen { HasSeen W.at result seat.old.me.0 seat.new.me.0 }
         ensures told { W.told result seat.new.me.0 }
     {
         self.table.shared.fetch_and::<Told<W>>(seat, word, mask)
@@ -87,6 +91,7 @@ impl Shared {
         requires word { LiesAt self.now.setup.plan W.at word }
         requires rule { MayStep self.now.setup seat.old W.at (less_by k) W.told }
         ensures same { IsSameSeat seat.old seat.new }
+        ensures seen { HasSeen W.at result seat.old.me.0 seat.new.me.0 }
         ensures told { W.told result seat.new.me.0 }
     {
         self.table.shared.fetch_sub::<Told<W>>(seat, word, k)

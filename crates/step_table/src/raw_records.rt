@@ -1,13 +1,13 @@
 //! The atomic operations that only steps on records make.
-ghost use Rattle.std.specs.Prelude.{◌≡◌};
+ghost use Rattle.std.specs.Prelude.{◌≡◌, ℕ};
 
 use crate::shared::Shared;
-use crate::told::{Told, Wish};
+use crate::told::{Stored, Told, Wish};
 use atomic_table::Seat;
 use table_core::View;
 
 impl Shared {
-    ghost use Rattle.step_table.specs.Seats.{IsSameSeat, LiesAt, MayStep, more_by, always};
+    ghost use Rattle.step_table.specs.Seats.{IsSameSeat, HasSeen, LiesAt, MayStep, more_by, always};
 
     pub(crate) fn fetch_add_as<W: Wish, A>(
         &self,
@@ -20,9 +20,27 @@ impl Shared {
         requires word { LiesAt self.now.setup.plan W.at word }
         requires rule { MayStep self.now.setup seat.old W.at (more_by k) W.told }
         ensures same { IsSameSeat seat.old seat.new }
+        ensures seen { HasSeen W.at result seat.old.me.0 seat.new.me.0 }
         ensures told { W.told result seat.new.me.0 }
     {
         self.table.shared.fetch_add::<Told<W>>(seat, word, k)
+    }
+
+    pub(crate) fn swap_as<W: Wish, A>(
+        &self,
+        seat: &mut Seat<(), View>,
+        word: usize,
+        new: u64,
+        _about: &A,
+    ) -> u64
+        requires table { seat.old.table_id ≡ self.now.table.shared.table_id }
+        requires word { LiesAt self.now.setup.plan W.at word }
+        requires rule { MayStep self.now.setup seat.old W.at (always new) W.told }
+        ensures same { IsSameSeat seat.old seat.new }
+        ensures seen { HasSeen W.at result seat.old.me.0 seat.new.me.0 }
+        ensures told { W.told result seat.new.me.0 }
+    {
+        self.table.shared.swap::<Told<W>>(seat, word, new)
     }
 
     // A store does not tell what it found.
@@ -37,8 +55,9 @@ impl Shared {
         requires word { LiesAt self.now.setup.plan W.at word }
         requires rule { MayStep self.now.setup seat.old W.at (always new) (λ _. W.told new) }
         ensures same { IsSameSeat seat.old seat.new }
+        ensures seen { (found : ℕ) × HasSeen W.at found seat.old.me.0 seat.new.me.0 }
         ensures told { W.told new seat.new.me.0 }
     {
-        self.table.shared.store::<Told<W>>(seat, word, new)
+        self.table.shared.store::<Stored<W>>(seat, word, new)
     }
 }

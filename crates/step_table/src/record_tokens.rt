@@ -1,4 +1,4 @@
-ghost use Rattle.std.specs.Prelude.{◌≡◌, ◌≤◌};
+ghost use Rattle.std.specs.Prelude.{◌≡◌, ◌≤◌, ◌<◌, ◌^◌, ◌↔◌, IsTrue};
 ghost use Rattle.record_core.specs.Counting.{times};
 
 use crate::pass::Pass;
@@ -28,16 +28,26 @@ pub struct Finishing {
     pub(crate) unit: u32,
 }
 
-/// A record that its pass runs.
+/// A record that its pass runs, with the number of its activation.
 #[derive(Drop)]
 pub struct Started {
     pub(crate) unit: u32,
+    pub(crate) number: u32,
+    pub ghost number_fits: { number < 2 ^ 24 },
 }
 
 /// A record that waits, and that only its pass may link or start.
 #[derive(Drop)]
 pub struct Linkable {
     pub(crate) unit: u32,
+}
+
+/// A list of records that wait, which its pass took from a record.
+#[derive(Drop)]
+pub struct Chain {
+    // The unit of the first, and how many there are.
+    pub(crate) first: Option<u32>,
+    pub(crate) length: u32,
 }
 
 /// A word of a record: of its frame, by its place there, or of its header.
@@ -111,6 +121,13 @@ impl Started {
     {
         self.unit
     }
+
+    /// The number of its activation.
+    pub fn number(&self) -> u32
+        ensures { result ≡ self.now.number }
+    {
+        self.number
+    }
 }
 
 impl Linkable {
@@ -119,5 +136,21 @@ impl Linkable {
         ensures { result ≡ self.now.unit }
     {
         self.unit
+    }
+}
+
+impl Chain {
+    /// How many records the chain has.
+    pub fn len(&self) -> u32
+        ensures { result ≡ self.now.length }
+    {
+        self.length
+    }
+
+    /// Whether the chain has no record.
+    pub fn is_empty(&self) -> bool
+        ensures { IsTrue result ↔ (self.now.length ≡ 0) }
+    {
+        self.length == 0
     }
 }

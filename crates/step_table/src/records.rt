@@ -1,6 +1,5 @@
 //! The steps on records of the pass.
 ghost use Rattle.std.specs.Prelude.{◌≡◌, ◌<◌, true};
-ghost use Rattle.table_core.specs.Holdings.{Made as MadeOf};
 ghost use Rattle.table_core.specs.Addresses.{units_of};
 
 use crate::pass::Pass;
@@ -18,7 +17,7 @@ const MADE: u64 = 1;
 
 impl Shared {
     ghost use Rattle.step_table.specs.Passes.{view, plan, IsOf, IsSame, block_of, HasBlock};
-    ghost use Rattle.step_table.specs.RecordHands.{HasMade, MayFill, MayRead};
+    ghost use Rattle.step_table.specs.RecordHands.{HasNew, MayFill, MayRead};
     ghost use Rattle.step_table.specs.RecordSteps.{Founds, Unmakes, Fills, Reads, SeesState};
 
     /// Makes a record in a fresh block. It has no number yet, and nobody refers to it.
@@ -40,7 +39,7 @@ impl Shared {
     /// Turns a record that got no number into a fresh block again.
     pub fn unmake(&self, pass: &mut Pass, made: Made) -> Block
         requires table { IsOf self.now pass.old }
-        requires hand { (r : MadeOf) × HasMade (plan self.now) made.unit made.class (view pass.old) r × (r.number ≡ 0) }
+        requires hand { HasNew (plan self.now) made.unit made.class (view pass.old) }
         ensures pass { IsSame pass.old pass.new }
         ensures block { Unmakes made pass.old result pass.new }
     {

@@ -1,6 +1,5 @@
 //! The steps on references.
-ghost use Rattle.std.specs.Prelude.{◌≡◌, ◌<◌, ◌^◌, true};
-ghost use Rattle.table_core.specs.Holdings.{Done as DoneOf};
+ghost use Rattle.std.specs.Prelude.{◌≡◌, ◌<◌, ◌^◌};
 ghost use Rattle.step_table.specs.RecordSteps.{IsLast};
 
 use crate::layout::super_word;
@@ -25,7 +24,7 @@ fn last_of(unit: u32, found: u64) -> Option<Retiring>
 
 impl Shared {
     ghost use Rattle.step_table.specs.Passes.{view, plan, IsOf, IsSame};
-    ghost use Rattle.step_table.specs.RecordHands.{HasFuture, HasDone, HasRetiring};
+    ghost use Rattle.step_table.specs.RecordHands.{HasFuture, HasClosed, HasRetiring};
     ghost use Rattle.step_table.specs.RecordSteps.{Refers, Lessens, GivesUp, Retires};
 
     /// Takes one more reference to a record to which the pass has one.
@@ -60,7 +59,7 @@ impl Shared {
     /// Some: it was the last.
     pub fn give_up(&self, pass: &mut Pass, finishing: Finishing) -> Option<Retiring>
         requires table { IsOf self.now pass.old }
-        requires hand { (d : DoneOf) × HasDone (plan self.now) finishing.unit (view pass.old) d × (d.closed ≡ true) }
+        requires hand { HasClosed (plan self.now) finishing.unit (view pass.old) }
         ensures pass { IsSame pass.old pass.new }
         ensures view { GivesUp finishing pass.old result pass.new }
     {

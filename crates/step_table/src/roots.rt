@@ -4,7 +4,7 @@ ghost use Rattle.table_core.specs.Holdings.{RootSays, Record};
 ghost use Rattle.table_core.specs.RecordViews.{turned};
 ghost use Rattle.table_core.specs.Roots.{root_word as word_of_root};
 ghost use Rattle.step_table.specs.Turns.{turn_of, says_of, said};
-ghost use Rattle.step_table.specs.RootSteps.{name_of, taken_of, FitsName};
+ghost use Rattle.step_table.specs.RootSteps.{name_of, taken_of, FitsName, TellsRoot};
 
 use crate::pass::Pass;
 use crate::record_layout::{refs_word, root_word};
@@ -77,7 +77,7 @@ impl Pass {
     pub fn named(&self, root: u8) -> Option<NamedRoot>
         requires root { root < 16 }
         requires turn { (asked : List RootSays) × ((view self.now).turn ≡ asked ∷ []) }
-        ensures { (asked : List RootSays) → (view self.now).turn ≡ asked ∷ [] → said result ≡ slice_get asked root }
+        ensures { TellsRoot root (view self.now) result }
     {
         match self.turn {
             Some(turn) => turn.at(root),

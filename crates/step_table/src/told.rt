@@ -1,6 +1,6 @@
 ghost use Rattle.std.specs.Prelude.{ℕ};
 ghost use Rattle.table_core.specs.Addresses.{Addr, super};
-ghost use Rattle.table_core.specs.Steps.{Tells};
+ghost use Rattle.table_core.specs.Steps.{Tells, TellsStored};
 ghost use Rattle.table_core.specs.declared.view.View.{View};
 
 use atomic_table::Play;
@@ -27,5 +27,14 @@ pub struct Told<W: Wish> {
 }
 
 impl<W: Wish> Play<(), View> for Told<W> {
-    ghost then = { λ step old. Tells W.told old };
+    ghost then = { λ step old. Tells W.at W.told old };
+}
+
+/// A store that tells what is wished for, of the number that it writes.
+pub struct Stored<W: Wish> {
+    marker: PhantomData<W>,
+}
+
+impl<W: Wish> Play<(), View> for Stored<W> {
+    ghost then = { λ step old. TellsStored W.at W.told old };
 }

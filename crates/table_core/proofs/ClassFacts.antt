@@ -57,7 +57,7 @@ module _ (g : Plan) where
 
     module _ (supers' : ℕ → ℕ) (stays : (j : ℕ) → j < g.geometry.superblocks → 1 ≤ count_of (supers j) → class_of (supers' j) ≡ class_of (supers j)) where
       -- a superblock of which the count is not 0 keeps its class: so does the one of each record
-      classes-stay : (u : ℕ) → u < units_of g → 1 ≤ phase_of (states u) → class_of (supers' (superblock_of g u)) ≡ class_of (supers (superblock_of g u))
+      pub classes-stay : (u : ℕ) → u < units_of g → 1 ≤ phase_of (states u) → class_of (supers' (superblock_of g u)) ≡ class_of (supers (superblock_of g u))
       classes-stay u near some = stays (superblock_of g u) (superblock_in u near) (used-counts u near some)
 
       pub fits-stay : (p : Program) (frames : ℕ → ℕ → ℕ) (vs : List (List Run)) → FramesFit p g states supers frames vs → FramesFit p g states supers' frames vs

@@ -1,8 +1,8 @@
 -- Each kind of step that writes or reads an own word, or reads a state word, keeps the rule.
 use Rattle.std.proofs.Common.{◌≡◌, ◌≢◌, ◌∙◌, ◌⊎◌, inl, inr, ℕ, ◌+◌, ◌*◌, ◌<◌, ◌≤◌, Bool, true, false, cond, ◌==◌, Some, List, ◌∷◌, map, refl, sym, ap, subst, true≢false, arith}
-use Rattle.std.specs.Prelude.{slice_set}
-use Rattle.std.proofs.lemmas.Bool.{ne_eqb, lt-ltb, le-leb, and_from}
-use Rattle.record_core.specs.Counting.{At, one_if}
+use Rattle.std.specs.Prelude.{slice_set, nat_le, ◌&&◌}
+use Rattle.std.proofs.lemmas.Bool.{ne_eqb, lt-ltb, le-leb, leb-true, eqb-true, and_from, and_parts}
+use Rattle.record_core.specs.Counting.{At, one_if, times}
 use Rattle.kt_words.specs.Capacity.{block_units}
 use Rattle.kt_words.specs.StateWords.{phase_of, IsStateWord}
 use Rattle.kt_words.specs.SuperWords.{class_of}
@@ -11,25 +11,39 @@ use Rattle.table_core.specs.Addresses.{Addr, Mem, super, bits, state, refs, head
 use Rattle.table_core.specs.Story.{Story}
 use Rattle.table_core.specs.Pool.{superblock_of, Hand, bit_in}
 use Rattle.table_core.specs.References.{is_saved, is_record, Bag}
-use Rattle.table_core.specs.Own.{Hands, is_own, is_inside, known_in, record_words, OwnSound}
+use Rattle.table_core.specs.Own.{Hands, made_at, is_own, is_inside, known_in, record_words, OwnSound}
+use Rattle.table_core.specs.Holdings.{SawDone}
+use Rattle.table_core.specs.Sights.{Knows, IsKnown}
 use Rattle.table_core.specs.Views.{saw}
 use Rattle.table_core.specs.RecordViews.{filled, learnt, saw_state}
-use Rattle.table_core.specs.Parts.{Part, pool, references, fits, own, shaped, seen, Says, AllSay, Lawful, Keeps}
+use Rattle.table_core.specs.Parts.{Part, pool, references, fits, own, shaped, waits, sights, seen, Says, AllSay, Keeps}
 use Rattle.table_core.specs.declared.setup.Setup.{Setup}
 use Rattle.table_core.specs.declared.view.View.{View}
 use Rattle.table_core.proofs.AddressFacts.{same-is}
-use Rattle.table_core.proofs.ListFacts.{at_map}
+use Rattle.table_core.proofs.ListFacts.{at_map, each-set, each-cons}
 use Rattle.table_core.proofs.Rule.{frames, moves, kept_word}
 use Rattle.table_core.proofs.FrameReads.{frame-some, names-same}
 use Rattle.table_core.proofs.ReferenceFacts.{referred-moved, leaving}
 use Rattle.table_core.proofs.ClassFacts.{saved-phase, record-phase}
 use Rattle.table_core.proofs.OwnFacts.{IsHand, hands-from, hand-kept, own-moved, made-phase}
-use Rattle.table_core.proofs.RecordWords.{refs-own}
+use Rattle.table_core.proofs.RecordWords.{refs-own, head-own, task-own}
+use Rattle.table_core.proofs.SightFacts.{sighted, sights-written}
+use Rattle.table_core.proofs.WaitFacts.{waits-head}
 use Rattle.table_core.proofs.Owners.{Lies, lies-one, owner-of, own-one, is_filled, words-put, own-word}
 
 -- an arena word that is written, and another one
 arena-other : (m : Mem) (x n k : ℕ) → k ≢ x → put m (arena x) n (arena k) ≡ m (arena k)
 arena-other m x n k ne = ap (λ (b : Bool). cond b n (m (arena k))) (ne_eqb x k (λ e. ne (sym e)))
+
+pub task-other : (m : Mem) (u n w : ℕ) → w ≢ u → put m (task u) n (task w) ≡ m (task w)
+task-other m u n w ne = ap (λ (b : Bool). cond b n (m (task w))) (ne_eqb u w (λ e. ne (sym e)))
+
+pub head-other : (m : Mem) (u n w : ℕ) → w ≢ u → put m (head u) n (head w) ≡ m (head w)
+head-other m u n w ne = ap (λ (b : Bool). cond b n (m (head w))) (ne_eqb u w (λ e. ne (sym e)))
+
+-- what is no record by its phase
+abbrev test_record : ℕ → Bool
+test_record p = nat_le 2 p && nat_le p 5
 
 refs-other : (m : Mem) (u n w : ℕ) → w ≢ u → put m (refs u) n (refs w) ≡ m (refs w)
 refs-other m u n w ne = ap (λ (b : Bool). cond b n (m (refs w))) (ne_eqb u w (λ e. ne (sym e)))
@@ -98,13 +112,37 @@ module _ (g : Setup) (id : ℕ) (v : View) where
           let t = owner-of g.plan supers (bit_in m) states hands (l pool) (record_words m) owners (l own) id (seen own v) owner_at a mine in
           (t.0, t.1, elim t.2 [ inl p ↦ inl p.1 | inr p ↦ inr p.1 ])
 
-    -- fill of a word that no other part reads
+    pub is-made : (u : ℕ) → 1 ≤ made_at u v.made → phase_of (states u) ≡ 1
+    is-made u some = (made-phase g.plan supers states (record_words m) owners (l own) id (seen own v) owner_at u some).1
+
+    -- nobody refers to a record that is made
+    unsighted : (u : ℕ) → phase_of (states u) ≡ 1 → (k w : ℕ) (x : Knows) → At (map (seen sights) vs) k x → 1 ≤ times w x.futures → w ≢ u
+    unsighted u made k w x there has e = omega (arith, made, record-phase (states w) (sighted g m vs s l k x there w has).1, ap (λ (y : ℕ). phase_of (states y)) e)
+
+    -- fill of a word that no other part reads of a record that is made
     task-parts : (u n : ℕ) → is_own v.made v.runs (task u) ≡ true → (q : Part) → Says g q s (put m (task u) n) (map (seen q) (slice_set vs id (saw (task u) (m (task u)) (filled (task u) n v))))
     task-parts u n mine own = moves g vs id v at own s (put m (task u) n) _ (fill-own (task u) n mine refl)
+    task-parts u n mine sights = frames g vs id v at sights s (put m (task u) n) (saw (task u) (m (task u)) (filled (task u) n v)) refl
+        (sights-written (λ w. m (head w)) (λ w. m (head w)) (λ w. m (task w)) (λ w. put m (task u) n (task w)) states states (map (seen sights) vs) (l sights)
+        (λ k w x there has. record {
+          later = inl refl;
+          task_same = task-other m u n w (unsighted u (is-made u (task-own v.made v.runs u mine)) k w x there has);
+          done_same = λ e. refl;
+        }))
     task-parts u n mine q = frames g vs id v at q s (put m (task u) n) (saw (task u) (m (task u)) (filled (task u) n v)) refl (l q)
 
     head-parts : (u n : ℕ) → is_own v.made v.runs (head u) ≡ true → (q : Part) → Says g q s (put m (head u) n) (map (seen q) (slice_set vs id (saw (head u) (m (head u)) (filled (head u) n v))))
     head-parts u n mine own = moves g vs id v at own s (put m (head u) n) _ (fill-own (head u) n mine refl)
+    head-parts u n mine waits = frames g vs id v at waits s (put m (head u) n) (saw (head u) (m (head u)) (filled (head u) n v)) refl
+        (waits-head g.plan states (λ w. m (head w)) (λ w. m (next w)) (map (seen waits) vs) (l waits) u (λ w. put m (head u) n (head w)) (head-other m u n)
+        (ap test_record (is-made u (head-own v.made v.runs u mine))))
+    head-parts u n mine sights = frames g vs id v at sights s (put m (head u) n) (saw (head u) (m (head u)) (filled (head u) n v)) refl
+        (sights-written (λ w. m (head w)) (λ w. put m (head u) n (head w)) (λ w. m (task w)) (λ w. m (task w)) states states (map (seen sights) vs) (l sights)
+        (λ k w x there has. record {
+          later = inl (head-other m u n w (unsighted u (is-made u (head-own v.made v.runs u mine)) k w x there has));
+          task_same = refl;
+          done_same = λ e. refl;
+        }))
     head-parts u n mine q = frames g vs id v at q s (put m (head u) n) (saw (head u) (m (head u)) (filled (head u) n v)) refl (l q)
 
     result-parts : (u n : ℕ) → is_own v.made v.runs (outcome u) ≡ true
@@ -146,7 +184,7 @@ module _ (g : Setup) (id : ℕ) (v : View) where
       abbrev frames' : ℕ → ℕ → ℕ
       frames' = frame_in (put m (arena x) n)
 
-      frame-stays : (r : ℕ) → r < units_of g.plan → is_saved (states r) ≡ true → (k : ℕ) → k < frame_length g.checked (frame_in m r 0) → frames' r k ≡ frame_in m r k
+      pub frame-stays : (r : ℕ) → r < units_of g.plan → is_saved (states r) ≡ true → (k : ℕ) → k < frame_length g.checked (frame_in m r 0) → frames' r k ≡ frame_in m r k
       frame-stays r near is k low = arena-other m x n (8 * r + k) (λ e. apart e (filler (arena x) n mine refl))
         where
           long : frame_length g.checked (frame_in m r 0) ≤ 8 * block_units (class_of (supers (superblock_of g.plan r)))
@@ -177,12 +215,12 @@ module _ (g : Setup) (id : ℕ) (v : View) where
       frame-parts q = frames g vs id v at q s (put m (arena x) n) after_frame refl (l q)
 
     -- fill, whichever word it is
-    fill-lawful : (a : Addr) (n : ℕ) → is_own v.made v.runs a ≡ true → is_filled a ≡ true → Lawful g (put m a n) (slice_set vs id (saw a (m a) (filled a n v)))
-    fill-lawful (task u) n mine may = (s, task-parts u n mine)
-    fill-lawful (head u) n mine may = (s, head-parts u n mine)
-    fill-lawful (outcome u) n mine may = (s, result-parts u n mine)
-    fill-lawful (refs u) n mine may = (s, refs-parts u n mine)
-    fill-lawful (arena x) n mine may = (s, frame-parts x n mine)
+    pub fill-lawful : (a : Addr) (n : ℕ) → is_own v.made v.runs a ≡ true → is_filled a ≡ true → AllSay g s (put m a n) (slice_set vs id (saw a (m a) (filled a n v)))
+    fill-lawful (task u) n mine may = task-parts u n mine
+    fill-lawful (head u) n mine may = head-parts u n mine
+    fill-lawful (outcome u) n mine may = result-parts u n mine
+    fill-lawful (refs u) n mine may = refs-parts u n mine
+    fill-lawful (arena x) n mine may = frame-parts x n mine
     fill-lawful (super i) n mine may = absurd (true≢false (sym may))
     fill-lawful (bits i j) n mine may = absurd (true≢false (sym may))
     fill-lawful (state u) n mine may = absurd (true≢false (sym may))
@@ -228,25 +266,33 @@ module _ (g : Setup) (id : ℕ) (v : View) where
 
     -- see state
     see-parts : (u : ℕ) (q : Part) → Says g q s m (map (seen q) (slice_set vs id (saw (state u) (m (state u)) (saw_state u (m (state u)) v))))
-    see-parts u q = frames g vs id v at q s m (saw (state u) (m (state u)) (saw_state u (m (state u)) v)) (same q) (l q)
+    see-parts u sights = moves g vs id v at sights s m (saw (state u) (m (state u)) (saw_state u (m (state u)) v))
+        (each-set (IsKnown (λ w. m (head w)) (λ w. m (task w)) states) (map (seen sights) vs) id _ (l sights) (by (nat_le 1 (times u v.futures) && (phase_of (m (state u)) == 5)) refl))
       where
-        same : (q : Part) → seen q v ≡ seen q (saw (state u) (m (state u)) (saw_state u (m (state u)) v))
-        same pool = refl
-        same q = refl
+        mine : IsKnown (λ w. m (head w)) (λ w. m (task w)) states (seen sights v)
+        mine = l sights id (seen sights v) (at_map (seen sights) vs id v at)
+
+        by : (b : Bool) → (nat_le 1 (times u v.futures) && (phase_of (m (state u)) == 5)) ≡ b
+            → IsKnown (λ w. m (head w)) (λ w. m (task w)) states (record { futures = v.futures; sights = cond b (SawDone u (m (state u)) ∷ v.sights) v.sights })
+        by false e = mine
+        by true e =
+            let t = and_parts (nat_le 1 (times u v.futures)) (phase_of (m (state u)) == 5) e in
+            each-cons _ (SawDone u (m (state u))) v.sights (leb-true 1 (times u v.futures) t.0, (refl, eqb-true (phase_of (m (state u))) 5 t.1)) mine
+    see-parts u q = frames g vs id v at q s m (saw (state u) (m (state u)) (saw_state u (m (state u)) v)) refl (l q)
 
   -- fill: an own word of a record that is made, or the frame or the result of one that runs
   pub fills-at : (a : Addr) (n : ℕ) → is_own v.made v.runs a ≡ true → is_filled a ≡ true → Keeps g id v a (λ k. n) (λ r w. (k : ℕ) × (w ≡ saw a k (filled a n v)))
-  fills-at a n mine may m vs s l at small = (saw a (m a) (filled a n v), fill-lawful m vs s l at a n mine may, (m a, refl), refl)
+  fills-at a n mine may m vs s l at small = (saw a (m a) (filled a n v), fill-lawful m vs s l at a n mine may, (m a, refl), (refl, refl))
 
   -- read own: what is known is what is found
   pub reads-at : (a : Addr) → Keeps g id v a (λ n. n) (λ r w. (w ≡ saw a r (learnt a r v)) × ((n : ℕ) → known_in a v.known ≡ Some n → r ≡ n))
-  reads-at a m vs s l at small = (saw a (m a) (learnt a (m a) v), kept_word g m a (m a) _ refl (s, read-parts m vs s l at a), (refl, read-told m vs s l at a), refl)
+  reads-at a m vs s l at small = (saw a (m a) (learnt a (m a) v), kept_word g s m a (m a) _ refl (read-parts m vs s l at a), (refl, read-told m vs s l at a), (refl, refl))
 
   -- see state
   pub sees-state-at : (u : ℕ) → u < units_of g.plan → Keeps g id v (state u) (λ n. n) (λ r w. (w ≡ saw (state u) r (saw_state u r v)) × IsStateWord r)
   sees-state-at u near m vs s l at small = (
     saw (state u) (m (state u)) (saw_state u (m (state u)) v),
-    kept_word g m (state u) (m (state u)) _ refl (s, see-parts m vs s l at u),
+    kept_word g s m (state u) (m (state u)) _ refl (see-parts m vs s l at u),
     (refl, l shaped u near),
-    refl,
+    (refl, refl),
   )

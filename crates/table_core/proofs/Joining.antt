@@ -1,26 +1,28 @@
 -- A pass is joined into another: the rule is kept.
-use Rattle.std.proofs.Common.{◌≡◌, ◌≢◌, ◌∙◌, ℕ, ◌+◌, ◌*◌, ◌≤◌, List, map, length, refl, sym, ap, subst, arith, length-append}
+use Rattle.std.proofs.Common.{◌≡◌, ◌≢◌, ◌∙◌, ℕ, ◌+◌, ◌*◌, ◌≤◌, min, ◌==◌, List, map, length, refl, sym, ap, subst, arith, length-append}
 use Rattle.std.specs.Prelude.{slice_set, slice_index}
 use Rattle.std.proofs.lemmas.List.{map-set}
 use Rattle.atomic_table.specs.Table.{Joins}
 use Rattle.record_core.specs.Sums.{total}
 use Rattle.record_core.proofs.TotalFacts.{total-set_two, total-append, slice_get-set_other}
-use Rattle.kt_words.specs.SuperWords.{class_of}
+use Rattle.kt_words.specs.SuperWords.{class_of, most_ever}
 use Rattle.kt_words.specs.Capacity.{block_units}
 use Rattle.frame_code.specs.Frames.{frame_length}
-use Rattle.table_core.specs.Addresses.{Mem, super, state, refs, root, frame_in, mem_of}
+use Rattle.table_core.specs.Addresses.{Mem, super, state, refs, head, next, task, root, frame_in, mem_of}
 use Rattle.record_core.specs.Counting.{At, one_if, times}
 use Rattle.table_core.specs.Lists.{Each, hit, hit3}
 use Rattle.table_core.specs.Holdings.{Place, Block, Look, Run, Done}
 use Rattle.table_core.specs.Story.{Story}
 use Rattle.table_core.specs.Pool.{Hand, IsBlock, superblock_of, bit_of, places, owns, bit_in}
-use Rattle.table_core.specs.Wins.{Won, Looked, IsLook, at_place}
+use Rattle.table_core.specs.Wins.{Won, Looked, IsLook, at_place, at_superblock}
 use Rattle.table_core.specs.Bounds.{IsBounded, Numbered}
 use Rattle.table_core.specs.References.{Bag}
 use Rattle.table_core.specs.Own.{Hands, made_at, runs_at, done_at, record_words}
 use Rattle.table_core.specs.Roots.{Turn}
+use Rattle.table_core.specs.WaitLists.{Waits, waits_at, chains_at, unclosed_at}
+use Rattle.table_core.specs.Sights.{IsKnown}
 use Rattle.table_core.specs.Views.{joined, spent, with_wins, HasOnlyBlocks}
-use Rattle.table_core.specs.Parts.{Part, pool, shares, bounds, wins, looks, evers, references, fits, own, roots, shaped, numbers, Seen, seen, unnumbered, Says, AllSay}
+use Rattle.table_core.specs.Parts.{Part, pool, shares, bounds, wins, looks, evers, references, fits, own, roots, shaped, numbers, totals, waits, sights, Seen, seen, unnumbered, Says, AllSay}
 use Rattle.table_core.specs.declared.setup.Setup.{Setup}
 use Rattle.table_core.specs.declared.view.View.{View}
 use Rattle.table_core.proofs.ListFacts.{found, at_map, map_at, each-set, each-append, each-none}
@@ -28,6 +30,7 @@ use Rattle.table_core.proofs.PoolFacts.{pool-same}
 use Rattle.table_core.proofs.WinSteps.{look-kept}
 use Rattle.table_core.proofs.ReferenceFacts.{referred-same}
 use Rattle.table_core.proofs.OwnFacts.{IsHand, knows-nothing, hands-from, own-from}
+use Rattle.table_core.proofs.WaitFacts.{IsWaitHand, wait-hands, waits-same}
 use Rattle.table_core.proofs.Rule.{holds_at}
 
 module _ (g : Setup) (m : Mem) (vs : List View) (s : Story) (l : AllSay g s m vs) (id other : ℕ) (v w : View) (at : At vs id v) (at' : At vs other w) (apart : id ≢ other) (in_use : 1 ≤ v.parts) (only : HasOnlyBlocks w) where
@@ -85,7 +88,7 @@ module _ (g : Setup) (m : Mem) (vs : List View) (s : Story) (l : AllSay g s m vs
       (looks-both v w (λ i c. omega (arith, total-append (λ (r : Place). hit r.superblock r.class i c) w.wins v.wins)) (l looks id (seen looks v) (at_map (seen looks) vs id v at)))
       (looks-both w v (λ i c. omega (arith, total-append (λ (r : Place). hit r.superblock r.class i c) w.wins v.wins)) (l looks other (seen looks w) (at_map (seen looks) vs other w at')))
 
-  joined_parts : (q : Part) → Says g q s m (after q)
+  pub joined_parts : (q : Part) → Says g q s m (after q)
   joined_parts pool = pool-same g.plan (λ i. m (super i)) (bit_in m) (λ u. m (state u)) (map (seen pool) vs) (after pool) (l pool)
       (λ i c. sum-same pool (places g.plan i c) (places-both i c) refl) (λ i c b. sum-same pool (owns g.plan i c b) (owns-both i c b) refl)
       (each-after pool (λ (h : Hand). Each (λ (b : Block). IsBlock g.plan b.unit b.class) h.blocks) ((l pool).blocks)
@@ -100,12 +103,16 @@ module _ (g : Setup) (m : Mem) (vs : List View) (s : Story) (l : AllSay g s m vs
         spent = λ none. absurd (omega (arith, none));
       })
       (record { few = omega arith; accepted = omega arith; single = omega arith; spent = λ none. omega arith })
-  joined_parts wins = λ i c near. omega (
-    arith,
-    l wins i c near,
-    sum-same wins (λ (u : Won). at_place i c u.wins) (omega (arith, total-append (λ (r : Place). hit r.superblock r.class i c) w.wins v.wins)) refl,
-    sum-same wins (λ (u : Won). at_place i c u.settles) (omega (arith, total-append (λ (r : Place). hit r.superblock r.class i c) w.settles v.settles)) refl,
-  )
+  joined_parts wins = record {
+    counts = λ i c near. omega (
+      arith,
+      (l wins).counts i c near,
+      sum-same wins (λ (u : Won). at_place i c u.wins) (omega (arith, total-append (λ (r : Place). hit r.superblock r.class i c) w.wins v.wins)) refl,
+      sum-same wins (λ (u : Won). at_place i c u.settles) (omega (arith, total-append (λ (r : Place). hit r.superblock r.class i c) w.settles v.settles)) refl,
+    );
+    ever = λ i near. (l wins).ever i near ∙ ap (λ (n : ℕ). min n most_ever)
+        (sym (sum-same wins (λ (u : Won). at_superblock i u.wins) (omega (arith, total-append (λ (r : Place). one_if (r.superblock == i)) w.wins v.wins)) refl));
+  }
   joined_parts looks = each-after looks (λ (u : Looked). Each (IsLook g.plan (λ i. m (super i)) (after looks) u.wins) u.looks)
       (λ j u there k x here. look-same u.wins x (l looks j u there k x here)) one_looks (each-none _)
   joined_parts evers = omega (
@@ -145,6 +152,17 @@ module _ (g : Setup) (m : Mem) (vs : List View) (s : Story) (l : AllSay g s m vs
     taken = omega (arith, sum-same numbers (λ (n : Numbered). n.taken) (omega (arith, length-append w.taken v.taken)) refl, (l numbers).taken);
     calls = omega (arith, sum-same numbers (λ (n : Numbered). n.calls) (omega (arith, length-append w.calls v.calls)) refl, (l numbers).calls);
   }
+  joined_parts totals = l totals
+  joined_parts waits =
+      let hands = wait-hands (λ u. m (state u)) (λ u. m (head u)) (λ u. m (next u)) g.plan (map (seen waits) vs) (l waits) in
+      waits-same (λ u. m (state u)) (λ u. m (head u)) (λ u. m (next u)) g.plan (map (seen waits) vs) (after waits) (l waits)
+      (λ u. sum-same waits (λ (x : Waits). unclosed_at u x.done) (omega (arith, ap (unclosed_at u) only.done)) refl)
+      (λ u. sum-same waits (λ (x : Waits). waits_at u x.waiting) (omega (arith, ap (waits_at u) only.waiting)) refl)
+      (λ u. sum-same waits (λ (x : Waits). chains_at u x.chains) (omega (arith, ap (chains_at u) only.chains)) refl)
+      (each-after waits (IsWaitHand (λ u. m (state u)) (λ u. m (head u)) (λ u. m (next u))) hands (hands id (seen waits v) (at_map (seen waits) vs id v at))
+      (record { done_closed = each-none _; chains = each-none _; numbers = each-none _; linked = each-none _ }))
+  joined_parts sights =
+      each-after sights (IsKnown (λ u. m (head u)) (λ u. m (task u)) (λ u. m (state u))) (l sights) (l sights id (seen sights v) (at_map (seen sights) vs id v at)) (each-none _)
 
   pub joined-says : (q : Part) → Says g q s m (map (seen q) (slice_set (slice_set vs id one) other spent))
   joined-says q = subst (Says g q s m) (sym (map-set (seen q) (slice_set vs id one) other spent ∙ ap (λ (xs : List (Seen q)). slice_set xs other (seen q spent)) (map-set (seen q) vs id one))) (joined_parts q)
@@ -159,4 +177,5 @@ joins g id v other w in_use only st holds at apart at' =
         joined-says g (mem_of g.plan st.words) st.views holds.1.0 holds.1.1 id other v w (found st.views id v at)
             (sym (slice_get-set_other st.views id other (joined v w) two) ∙ found (slice_set st.views id (joined v w)) other w at') two in_use only,
       ),
+      holds.2,
     )

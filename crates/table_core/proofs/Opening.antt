@@ -11,18 +11,20 @@ use Rattle.record_core.proofs.TotalFacts.{none_there}
 use Rattle.kt_words.specs.declared.plan.Plan.{Plan}
 use Rattle.table_core.specs.Addresses.{Addr, Mem, super, state, address, words_of, is_there, mem_of, units_of}
 use Rattle.table_core.specs.Story.{unwritten}
+use Rattle.table_core.specs.Unbuilt.{UnbuiltAreZero}
 use Rattle.table_core.specs.Pool.{cap, Hand, records, used_at, held, owned, IsKept, bit_in}
 use Rattle.table_core.specs.Bounds.{IsBounded}
 use Rattle.table_core.specs.Views.{first_view}
 use Rattle.table_core.specs.Holdings.{Record, Skipped}
 use Rattle.table_core.specs.Own.{is_in, record_words}
-use Rattle.table_core.specs.Parts.{Part, pool, shares, bounds, wins, looks, evers, references, fits, own, roots, shaped, numbers, seen, Says, Holds}
+use Rattle.table_core.specs.Parts.{Part, pool, shares, bounds, wins, looks, evers, references, fits, own, roots, shaped, numbers, totals, waits, sights, seen, Says, Holds}
 use Rattle.table_core.specs.declared.setup.Setup.{Setup}
 use Rattle.table_core.proofs.PoolFacts.{cond-le}
 use Rattle.table_core.proofs.ListFacts.{each-cons, each-none}
 use Rattle.table_core.proofs.OwnFacts.{knows-nothing, own-from}
+use Rattle.table_core.proofs.WaitFacts.{waits-from}
 
-abbrev zeros : Mem
+abbrev pub zeros : Mem
 zeros a = 0
 
 get_or-zeros : (n k : ℕ) → ◌≡◌ {A = ℕ} (get_or (replicate n 0) k 0) 0
@@ -30,14 +32,14 @@ get_or-zeros zero k = refl
 get_or-zeros (suc n) zero = refl
 get_or-zeros (suc n) (suc k) = get_or-zeros n k
 
-mem-zeros : (g : Plan) (n : ℕ) → mem_of g (replicate n 0) ≡ zeros
+pub mem-zeros : (g : Plan) (n : ℕ) → mem_of g (replicate n 0) ≡ zeros
 mem-zeros g n = λ i a. at (is_there g a) a i
   where
     at : (b : Bool) (a : Addr) → ◌≡◌ {A = ℕ} (cond b (get_or (replicate n 0) (address g a) 0) 0) 0
     at true a = get_or-zeros n (address g a)
     at false a = refl
 
-below-zeros : (n : ℕ) → below (λ k. 0) n ≡ 0
+pub below-zeros : (n : ℕ) → below (λ k. 0) n ≡ 0
 below-zeros zero = refl
 below-zeros (suc n) = omega (arith, below-zeros n)
 
@@ -56,7 +58,7 @@ module _ (g : Setup) where
   }
 
   -- no root word names a record
-  no_roots : (u : ℕ) → below (λ r. one_if (0 == u + 1)) 16 ≡ 0
+  pub no_roots : (u : ℕ) → below (λ r. one_if (0 == u + 1)) 16 ≡ 0
   no_roots u = below-same (λ r. one_if (0 == u + 1)) (λ r. 0) 16 (λ r near. ap one_if (ne_eqb 0 (u + 1) (λ e. omega (arith, e)))) ∙ below-zeros 16
 
   -- no record is in a phase but that of none
@@ -67,7 +69,7 @@ module _ (g : Setup) where
       by true = ap one_if other
       by false = refl
 
-  first_parts : (q : Part) → Says g q unwritten zeros (map (seen q) (first_view ∷ []))
+  pub first_parts : (q : Part) → Says g q unwritten zeros (map (seen q) (first_view ∷ []))
   first_parts pool = record {
     kept = λ i near. opened i;
     blocks = each-cons _ first_hand [] (each-none _) (each-none _);
@@ -75,7 +77,7 @@ module _ (g : Setup) where
   }
   first_parts shares = refl
   first_parts bounds = each-cons IsBounded (seen bounds first_view) [] (record { few = omega arith; accepted = omega arith; single = omega arith; spent = λ none. absurd (omega (arith, none)) }) (each-none _)
-  first_parts wins = λ i c near. omega (arith, cond-le (0 == c) 0)
+  first_parts wins = record { counts = λ i c near. omega (arith, cond-le (0 == c) 0); ever = λ i near. refl }
   first_parts looks = each-cons _ (seen looks first_view) [] (each-none _) (each-none _)
   first_parts evers = omega (arith, below-zeros g.plan.geometry.superblocks)
   first_parts references = record {
@@ -97,7 +99,16 @@ module _ (g : Setup) where
     known = each-cons _ (seen roots first_view) [] (omega arith) (each-none _);
   }
   first_parts shaped = λ u near. record { phase_fits = omega arith; priority_fits = omega arith; tag_fits = omega arith; number_fits = omega arith }
-  first_parts numbers = record { taken = omega arith; calls = omega arith }
+  first_parts numbers = record { taken = omega arith; calls = refl }
+  first_parts totals = record { drawn = omega arith; stamps = refl }
+  first_parts waits = waits-from (λ u. 0) (λ u. 0) (λ u. 0) g.plan (seen waits first_view ∷ []) (λ u near is. absurd (true≢false (sym is))) (λ u near is. absurd (omega (arith, is)))
+      (λ w. omega (arith, below-zeros (units_of g.plan), free 2 w refl)) (λ u near is. absurd (true≢false (sym is)))
+      (each-cons _ (seen waits first_view) [] (record { done_closed = each-none _; chains = each-none _; numbers = each-none _; linked = each-none _ }) (each-none _))
+  first_parts sights = each-cons _ (seen sights first_view) [] (each-none _) (each-none _)
 
   pub holds-first : (n : ℕ) → n ≡ words_of g.plan → Holds g (replicate n 0) (first_view ∷ [])
-  holds-first n long = (length-replicate n 0 ∙ long, (unwritten, λ q. subst (λ (m : Mem). Says g q unwritten m (map (seen q) (first_view ∷ []))) (sym (mem-zeros g.plan n)) (first_parts q)))
+  holds-first n long = (
+    length-replicate n 0 ∙ long,
+    (unwritten, λ q. subst (λ (m : Mem). Says g q unwritten m (map (seen q) (first_view ∷ []))) (sym (mem-zeros g.plan n)) (first_parts q)),
+    subst UnbuiltAreZero (sym (mem-zeros g.plan n)) (λ a not. refl),
+  )

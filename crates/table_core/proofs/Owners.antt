@@ -20,7 +20,7 @@ use Rattle.table_core.proofs.OwnFacts.{made-phase, runs-phase, made-counts, runs
 use Rattle.table_core.proofs.RecordWords.{OwnedBy, owned-by}
 
 -- a result is a word of its record
-result-word : (u units : ℕ) (a : Addr) → is_result_of u units a ≡ true → is_word_of u units a ≡ true
+pub result-word : (u units : ℕ) (a : Addr) → is_result_of u units a ≡ true → is_word_of u units a ≡ true
 result-word u units (outcome w) e = e
 result-word u units (arena k) e = e
 result-word u units (super i) e = absurd (true≢false (sym e))

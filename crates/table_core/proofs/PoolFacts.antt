@@ -6,7 +6,7 @@ use Rattle.std.proofs.lemmas.Nat.{pow_pos}
 use Rattle.std.proofs.lemmas.Bool.{cases_eq, eq-eqb, eqb-true, ne_eqb, ltb-true}
 use Rattle.record_core.specs.Sums.{total, below}
 use Rattle.record_core.proofs.TotalFacts.{total-le, total-set, total-member}
-use Rattle.record_core.proofs.BelowFacts.{below-member}
+use Rattle.record_core.proofs.BelowFacts.{below-member, below-same}
 use Rattle.kt_words.specs.declared.plan.Plan.{Plan}
 use Rattle.kt_words.specs.Capacity.{block_units}
 use Rattle.kt_words.specs.SuperWords.{class_of}
@@ -137,6 +137,19 @@ module _ (g : Plan) where
     blocks = blocks;
     first = sound.first;
   }
+
+  -- records that stand where they stood
+  pub pool-used : (supers : ℕ → ℕ) (bits : ℕ → ℕ → ℕ) (states states' : ℕ → ℕ) (hands : List Hand) → PoolSound g supers bits states hands
+      → ((u : ℕ) → is_used (states' u) ≡ is_used (states u)) → PoolSound g supers bits states' hands
+  pool-used supers bits states states' hands sound same = record {
+    kept = λ i near. kept-same (supers i) (supers i) (bits i) (bits i) (held g supers states hands i) (held g supers states' hands i) (owned g supers states hands i) (owned g supers states' hands i)
+        (sound.kept i near) refl (λ b small. refl) (λ c. ap (λ (n : ℕ). total (places g i c) hands + cond (class_of (supers i) == c) n 0) (records-same i)) (λ c b. ap (λ (n : ℕ). total (owns g i c b) hands + cond (class_of (supers i) == c) (cond (nat_lt b (cap g c)) n 0) 0) (same (unit_of g i c b)));
+    blocks = sound.blocks;
+    first = λ i j near low used. sound.first i j near low (sym (same (i * g.geometry.units + j)) ∙ used);
+  }
+    where
+      records-same : (i : ℕ) → records g states' i ≡ records g states i
+      records-same i = below-same (λ j. is_used (states' (i * g.geometry.units + j))) (λ j. is_used (states (i * g.geometry.units + j))) g.geometry.units (λ j low. same (i * g.geometry.units + j))
 
   module _ (supers : ℕ → ℕ) (bits : ℕ → ℕ → ℕ) (states : ℕ → ℕ) (hands : List Hand) (id : ℕ) (h h' : Hand) (at : At hands id h) where
     -- sums over the hands, after one has changed

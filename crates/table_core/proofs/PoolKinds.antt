@@ -17,13 +17,13 @@ use Rattle.table_core.specs.Lists.{Each, hit}
 use Rattle.table_core.specs.Holdings.{Place, Block}
 use Rattle.table_core.specs.Story.{Story, tasks_in}
 use Rattle.table_core.specs.Pool.{cap, superblock_of, bit_of, Hand, PoolSound, bit_in}
-use Rattle.table_core.specs.Wins.{Won, Looked, IsLook, at_place, WinsSound}
+use Rattle.table_core.specs.Wins.{Won, Looked, IsLook, at_place}
 use Rattle.table_core.specs.Bounds.{Held, IsBounded}
 use Rattle.table_core.specs.Own.{record_words}
 use Rattle.table_core.specs.Roots.{Turn}
 use Rattle.table_core.specs.Views.{place, is_place, saw, look_of, looked, reserved, claimed, cleared, settled}
-use Rattle.table_core.specs.Steps.{Tried, WonBit}
-use Rattle.table_core.specs.Parts.{Part, pool, shares, bounds, wins, looks, evers, fits, own, roots, seen, Says, AllSay, Lawful, Keeps}
+use Rattle.table_core.specs.Steps.{Tried, WonBit, Stepped}
+use Rattle.table_core.specs.Parts.{Part, pool, shares, bounds, wins, looks, evers, fits, own, roots, seen, Says, AllSay, Keeps}
 use Rattle.table_core.specs.declared.setup.Setup.{Setup}
 use Rattle.table_core.specs.declared.view.View.{View}
 use Rattle.table_core.proofs.ListFacts.{at_map, each-set, each-cons, dropped-block, length-dropped-has, place-passes, total-has}
@@ -41,7 +41,7 @@ super-here m i n = ap (λ (b : Bool). cond b n (m (super i))) (eq-eqb i i refl)
 super-other : (m : Mem) (i n j : ℕ) → j ≢ i → put m (super i) n (super j) ≡ m (super j)
 super-other m i n j ne = ap (λ (b : Bool). cond b n (m (super j))) (ne_eqb i j (λ e. ne (sym e)))
 
-bit_two : (n k : ℕ) → (bit_at n k ≡ 0) ⊎ (bit_at n k ≡ 1)
+pub bit_two : (n k : ℕ) → (bit_at n k ≡ 0) ⊎ (bit_at n k ≡ 1)
 bit_two n k = by (bit_at n k) (omega arith)
   where
     by : (b : ℕ) → b ≤ 1 → (b ≡ 0) ⊎ (b ≡ 1)
@@ -60,8 +60,8 @@ bounded h things in_use was = record { few = was.few; accepted = was.accepted; s
 
 module _ (g : Setup) (id : ℕ) (v : View) where
   -- a step that only sees a word, and leaves it as it was
-  pub sees : (a : Addr) (n : ℕ) (m : Mem) (vs : List View) (s : Story) → AllSay g s m vs → At vs id v → Lawful g m (slice_set vs id (saw a n v))
-  sees a n m vs s l at = (s, λ q. frames g vs id v at q s m (saw a n v) (saw-same v a n q) (l q))
+  pub sees : (a : Addr) (n : ℕ) (m : Mem) (vs : List View) (s : Story) → AllSay g s m vs → At vs id v → AllSay g s m (slice_set vs id (saw a n v))
+  sees a n m vs s l at = λ q. frames g vs id v at q s m (saw a n v) (saw-same v a n q) (l q)
 
   module _ (m : Mem) (vs : List View) (s : Story) (l : AllSay g s m vs) (at : At vs id v) where
     abbrev supers : ℕ → ℕ
@@ -103,10 +103,10 @@ module _ (g : Setup) (id : ℕ) (v : View) where
       seen_count : count_of word + at_place i (class_of word) v.settles ≤ total (λ u. at_place i (class_of word) u.wins) vs
       seen_count =
           let k : ℕ = class_of word in
-          let kept : WinsSound g.plan supers (map (seen wins) vs) = l wins in
+          let kept = (l wins).counts i k near in
           let mine : at_place i k v.settles ≤ total (λ (u : Won). at_place i k u.settles) (map (seen wins) vs) =
           total-member (λ (u : Won). at_place i k u.settles) (map (seen wins) vs) id (seen wins v) (at_map (seen wins) vs id v at) in
-          omega (arith, kept i k near, mine, cond-at k k (count_of word) refl, total-map (λ (u : Won). at_place i k u.wins) (seen wins) vs)
+          omega (arith, kept, mine, cond-at k k (count_of word) refl, total-map (λ (u : Won). at_place i k u.wins) (seen wins) vs)
 
       new_look : IsLook g.plan supers (slice_set (map (seen looks) vs) id (seen looks after_look)) v.wins (look_of i c word v)
       new_look =
@@ -153,7 +153,7 @@ module _ (g : Setup) (id : ℕ) (v : View) where
           by (inr ne) = omega (arith, ap ever_of (super-other m i new j ne))
 
       -- only an empty superblock changes its class
-      class_stays : (j : ℕ) → j < g.plan.geometry.superblocks → 1 ≤ count_of (supers j) → class_of (supers' j) ≡ class_of (supers j)
+      pub class_stays : (j : ℕ) → j < g.plan.geometry.superblocks → 1 ≤ count_of (supers j) → class_of (supers' j) ≡ class_of (supers j)
       class_stays j near' some = by (cases_eq j i)
         where
           here : (class_of (supers i) ≡ c) ⊎ (count_of (supers i) ≡ 0) → 1 ≤ count_of (supers i) → class_of (supers' i) ≡ class_of (supers i)
@@ -210,7 +210,7 @@ module _ (g : Setup) (id : ℕ) (v : View) where
           by (inr ne) = omega (arith, ap ever_of (super-other m i new j ne))
 
       -- the class stays
-      still_class : (j : ℕ) → j < g.plan.geometry.superblocks → 1 ≤ count_of (supers j) → class_of (supers'' j) ≡ class_of (supers j)
+      pub still_class : (j : ℕ) → j < g.plan.geometry.superblocks → 1 ≤ count_of (supers j) → class_of (supers'' j) ≡ class_of (supers j)
       still_class j near' some = by (cases_eq j i)
         where
           by : (j ≡ i) ⊎ (j ≢ i) → class_of (supers'' j) ≡ class_of (supers j)
@@ -279,35 +279,35 @@ module _ (g : Setup) (id : ℕ) (v : View) where
   pub looks-at : (i c : ℕ) → i < g.plan.geometry.superblocks → Keeps g id v (super i) (λ n. n) (λ r w. (w ≡ saw (super i) r (looked i c r v)) × (class_of r ≤ 3))
   looks-at i c near m vs s l at small = (
     after_look m vs s l at i c near,
-    kept_word g m (super i) (m (super i)) _ refl (s, look-parts m vs s l at i c near),
+    kept_word g s m (super i) (m (super i)) _ refl (look-parts m vs s l at i c near),
     (refl, class_near m vs s l at i c near),
-    refl,
+    (refl, refl),
   )
 
   pub reserves-at : (i c old new : ℕ) → i < g.plan.geometry.superblocks → c ≤ 3 → 1 ≤ v.parts → (class_of old ≡ c) ⊎ (count_of old ≡ 0) → count_of old < cap g.plan c → new ≡ reserved_word old c
       → Keeps g id v (super i) (λ n. either (n == old) new n) (λ r w. Tried old (saw (super i) r v) (saw (super i) r (reserved (place i c) v)) r w × (class_of r ≤ 3))
   reserves-at i c old new near low_class in_use which room new_is m vs s l at small = exchanged (m (super i)) old new
-      (λ n. (w : View) × Lawful g (put m (super i) n) (slice_set vs id w) × (Tried old (saw (super i) (m (super i)) v) (saw (super i) (m (super i)) (reserved (place i c) v)) (m (super i)) w × (class_of (m (super i)) ≤ 3)) × (w.parts ≡ v.parts))
+      (λ n. (w : View) × AllSay g s (put m (super i) n) (slice_set vs id w) × (Tried old (saw (super i) (m (super i)) v) (saw (super i) (m (super i)) (reserved (place i c) v)) (m (super i)) w × (class_of (m (super i)) ≤ 3)) × Stepped (super i) (m (super i)) v w)
       (λ e. (
         saw (super i) (m (super i)) (reserved (place i c) v),
-        (s, reserve-parts m vs s l at i c new near low_class in_use (subst (λ (x : ℕ). (class_of x ≡ c) ⊎ (count_of x ≡ 0)) (sym e) which) (omega (arith, room, ap count_of e)) (new_is ∙ ap (λ (x : ℕ). reserved_word x c) (sym e)) small),
+        reserve-parts m vs s l at i c new near low_class in_use (subst (λ (x : ℕ). (class_of x ≡ c) ⊎ (count_of x ≡ 0)) (sym e) which) (omega (arith, room, ap count_of e)) (new_is ∙ ap (λ (x : ℕ). reserved_word x c) (sym e)) small,
         ((λ same. refl, λ ne. absurd (ne e)), class_near m vs s l at i c near),
-        refl,
+        (refl, refl),
       ))
       (λ ne. (
         saw (super i) (m (super i)) v,
-        kept_word g m (super i) (m (super i)) _ refl (sees (super i) (m (super i)) m vs s l at),
+        kept_word g s m (super i) (m (super i)) _ refl (sees (super i) (m (super i)) m vs s l at),
         ((λ same. absurd (ne same), λ e. refl), class_near m vs s l at i c near),
-        refl,
+        (refl, refl),
       ))
 
   pub settles-at : (i c : ℕ) → i < g.plan.geometry.superblocks → 1 ≤ v.parts → Has (place i c) v.debts
       → Keeps g id v (super i) (λ n. (n + (2 ^ 64 - 1)) % 2 ^ 64) (λ r w. w ≡ saw (super i) r (settled (place i c) v))
   settles-at i c near in_use has m vs s l at small = (
     saw (super i) (m (super i)) (settled (place i c) v),
-    (s, settle-parts m vs s l at i c ((m (super i) + (2 ^ 64 - 1)) % 2 ^ 64) near in_use has (λ some. omega (arith, some, small))),
+    settle-parts m vs s l at i c ((m (super i) + (2 ^ 64 - 1)) % 2 ^ 64) near in_use has (λ some. omega (arith, some, small)),
     refl,
-    refl,
+    (refl, refl),
   )
 
   pub claims-at : (i c b : ℕ) → i < g.plan.geometry.superblocks → c ≤ 3 → b < cap g.plan c → 1 ≤ v.parts → Has (place i c) v.reserved
@@ -315,19 +315,19 @@ module _ (g : Setup) (id : ℕ) (v : View) where
   claims-at i c b near low_class below in_use has m vs s l at small = by (bit_two (m (bits i (b / 64))) (b % 64))
     where
       by : (bit_at (m (bits i (b / 64))) (b % 64) ≡ 0) ⊎ (bit_at (m (bits i (b / 64))) (b % 64) ≡ 1)
-          → (w : View) × Lawful g (put m (bits i (b / 64)) (bit_or (m (bits i (b / 64))) (one_bit b))) (slice_set vs id w)
-          × WonBit b (saw (bits i (b / 64)) (m (bits i (b / 64))) v) (saw (bits i (b / 64)) (m (bits i (b / 64))) (claimed g.plan (place i c) b v)) (m (bits i (b / 64))) w × (w.parts ≡ v.parts)
+          → (w : View) × AllSay g s (put m (bits i (b / 64)) (bit_or (m (bits i (b / 64))) (one_bit b))) (slice_set vs id w)
+          × WonBit b (saw (bits i (b / 64)) (m (bits i (b / 64))) v) (saw (bits i (b / 64)) (m (bits i (b / 64))) (claimed g.plan (place i c) b v)) (m (bits i (b / 64))) w × Stepped (bits i (b / 64)) (m (bits i (b / 64))) v w
       by (inl clear) = (
         saw (bits i (b / 64)) (m (bits i (b / 64))) (claimed g.plan (place i c) b v),
-        (s, claim-parts m vs s l at i c b near low_class below in_use has clear),
+        claim-parts m vs s l at i c b near low_class below in_use has clear,
         (λ e. refl, λ e. absurd (omega (arith, clear, e))),
-        refl,
+        (refl, refl),
       )
       by (inr set) = (
         saw (bits i (b / 64)) (m (bits i (b / 64))) v,
-        kept_word g m (bits i (b / 64)) _ _ (set_again (m (bits i (b / 64))) b set) (sees (bits i (b / 64)) (m (bits i (b / 64))) m vs s l at),
+        kept_word g s m (bits i (b / 64)) _ _ (set_again (m (bits i (b / 64))) b set) (sees (bits i (b / 64)) (m (bits i (b / 64))) m vs s l at),
         (λ e. absurd (omega (arith, set, e)), λ e. refl),
-        refl,
+        (refl, refl),
       )
 
   pub clears-at : (x : Block) → 1 ≤ v.parts → Has x v.blocks
@@ -335,9 +335,9 @@ module _ (g : Setup) (id : ℕ) (v : View) where
       (λ r w. w ≡ saw (bits (superblock_of g.plan x.unit) (bit_of g.plan x.unit x.class / 64)) r (cleared g.plan x v))
   clears-at x in_use has m vs s l at small = (
     saw (bits (superblock_of g.plan x.unit) (bit_of g.plan x.unit x.class / 64)) (m (bits (superblock_of g.plan x.unit) (bit_of g.plan x.unit x.class / 64))) (cleared g.plan x v),
-    (s, clear-parts m vs s l at x in_use has),
+    clear-parts m vs s l at x in_use has,
     refl,
-    refl,
+    (refl, refl),
   )
 
   -- a load of any word, which tells that no pass has more than all parts, and none has more than one turn
@@ -346,4 +346,4 @@ module _ (g : Setup) (id : ℕ) (v : View) where
       let mine : v.parts ≤ total (λ (n : ℕ). n) (map (seen shares) vs) = total-member (λ (n : ℕ). n) (map (seen shares) vs) id v.parts (at_map (seen shares) vs id v at) in
       let its : length v.turn ≤ total (λ (t : Turn). length t.turn) (map (seen roots) vs) =
       total-member (λ (t : Turn). length t.turn) (map (seen roots) vs) id (seen roots v) (at_map (seen roots) vs id v at) in
-      (saw a (m a) v, kept_word g m a (m a) _ refl (sees a (m a) m vs s l at), (refl, omega (arith, mine, l shares), omega (arith, its, (l roots).one)), refl)
+      (saw a (m a) v, kept_word g s m a (m a) _ refl (sees a (m a) m vs s l at), (refl, omega (arith, mine, l shares), omega (arith, its, (l roots).one)), (refl, refl))

@@ -1,15 +1,15 @@
 -- Each kind of step that makes a record of a block, or a block of a record, keeps the rule.
 use Rattle.std.proofs.Common.{◌≡◌, ◌≢◌, ◌∙◌, ◌⊎◌, inl, inr, ℕ, ◌+◌, ◌<◌, ◌≤◌, Bool, true, false, cond, ◌==◌, Some, List, map, refl, sym, ap, subst, true≢false, arith}
 use Rattle.std.specs.Prelude.{slice_set, nat_lt, nat_le, ◌&&◌}
-use Rattle.std.proofs.lemmas.Bool.{cases_eq, cases_lt, eqb-true, eq-eqb, ne_eqb, lt-ltb, le-leb, and_from}
+use Rattle.std.proofs.lemmas.Bool.{cases_eq, cases_lt, eqb-true, eq-eqb, ne_eqb, lt-ltb, le-leb, and_from, false_from_ne_true}
 use Rattle.record_core.specs.Sums.{total, below}
 use Rattle.record_core.specs.Counting.{At, Has, one_if, times, dropped}
-use Rattle.record_core.proofs.TotalFacts.{total-member, total-set, total-two_members}
+use Rattle.record_core.proofs.TotalFacts.{total-member, total-set, total-map, total-le, total-two_members}
 use Rattle.record_core.proofs.CountFacts.{total-dropped}
 use Rattle.kt_words.specs.Capacity.{block_units}
 use Rattle.kt_words.specs.StateWords.{phase_of, number_of, IsStateWord}
 use Rattle.kt_words.specs.SuperWords.{class_of}
-use Rattle.table_core.specs.Addresses.{Addr, Mem, super, state, refs, root, frame_in, units_of, put}
+use Rattle.table_core.specs.Addresses.{Addr, Mem, super, state, refs, head, next, task, root, frame_in, units_of, put}
 use Rattle.table_core.specs.Lists.{Each, hit, hit3}
 use Rattle.table_core.specs.Holdings.{Block, Made, Run}
 use Rattle.table_core.specs.Story.{Story}
@@ -17,12 +17,14 @@ use Rattle.table_core.specs.Bounds.{IsBounded}
 use Rattle.table_core.specs.Pool.{superblock_of, bit_of, IsBlock, is_used, Hand, bit_in}
 use Rattle.table_core.specs.References.{is_saved, is_live, is_record, Bag, saved_in, places_in, own_in, IsReferred}
 use Rattle.table_core.specs.Own.{Hands, made_at, done_at, is_own, is_in, is_word_of, known_in, record_words, OwnSound}
+use Rattle.table_core.specs.WaitLists.{Waits, unclosed_at, is_open}
+use Rattle.table_core.specs.Sights.{Knows}
 use Rattle.table_core.specs.Views.{block, is_block, saw}
 use Rattle.table_core.specs.RecordViews.{new_made, is_made_at, founded, unmade, retired}
-use Rattle.table_core.specs.Parts.{Part, pool, bounds, evers, references, fits, own, shaped, seen, Says, AllSay, Keeps}
+use Rattle.table_core.specs.Parts.{Part, pool, bounds, evers, references, fits, own, shaped, waits, sights, seen, Says, AllSay, Keeps}
 use Rattle.table_core.specs.declared.setup.Setup.{Setup}
 use Rattle.table_core.specs.declared.view.View.{View}
-use Rattle.table_core.proofs.ListFacts.{at_map, set_again, each-set, each-cons, each-dropped, dropped-block}
+use Rattle.table_core.proofs.ListFacts.{at_map, map_at, set_again, each-set, each-cons, each-dropped, dropped-block}
 use Rattle.table_core.proofs.Rule.{frames, moves, kept_word}
 use Rattle.table_core.proofs.PoolRecords.{pool-came, pool-went, record_block, block_free}
 use Rattle.table_core.proofs.PoolKinds.{bounded, sees}
@@ -31,13 +33,15 @@ use Rattle.table_core.proofs.ReferenceBound.{kept-done}
 use Rattle.table_core.proofs.BagFacts.{times-dropped, one-here, one-apart}
 use Rattle.table_core.proofs.ClassFacts.{superblock_in, used-from, record-phase}
 use Rattle.table_core.proofs.OwnFacts.{IsHand, hands-from, hand-apart, own-moved, made-phase, runs-phase, made-counts, runs-counts}
+use Rattle.table_core.proofs.SightFacts.{sighted, sights-written}
+use Rattle.table_core.proofs.WaitFacts.{unclosed-le, unread, waits-state}
 use Rattle.table_core.proofs.RecordWords.{state-own, words-state, forgets, made-one, own-left, own-more}
 
 -- a state word that is written, and those of others
-state-here : (m : Mem) (u n : ℕ) → put m (state u) n (state u) ≡ n
+pub state-here : (m : Mem) (u n : ℕ) → put m (state u) n (state u) ≡ n
 state-here m u n = ap (λ (b : Bool). cond b n (m (state u))) (eq-eqb u u refl)
 
-state-other : (m : Mem) (u n w : ℕ) → w ≢ u → put m (state u) n (state w) ≡ m (state w)
+pub state-other : (m : Mem) (u n w : ℕ) → w ≢ u → put m (state u) n (state w) ≡ m (state w)
 state-other m u n w ne = ap (λ (b : Bool). cond b n (m (state w))) (ne_eqb u w (λ e. ne (sym e)))
 
 -- a unit in no use has phase 0
@@ -75,6 +79,9 @@ module _ (g : Setup) (id : ℕ) (v : View) where
     abbrev supers : ℕ → ℕ
     supers i = m (super i)
 
+    abbrev heads : ℕ → ℕ
+    heads w = m (head w)
+
     abbrev hands : List Hand
     hands = map (seen pool) vs
 
@@ -104,7 +111,7 @@ module _ (g : Setup) (id : ℕ) (v : View) where
       abbrev states' : ℕ → ℕ
       states' w = put m (state u) n (state w)
 
-      same-test : (f : ℕ → Bool) → f n ≡ f (states u) → (w : ℕ) → f (states' w) ≡ f (states w)
+      pub same-test : (f : ℕ → Bool) → f n ≡ f (states u) → (w : ℕ) → f (states' w) ≡ f (states w)
       same-test f same w = by (cases_eq w u)
         where
           by : (w ≡ u) ⊎ (w ≢ u) → f (states' w) ≡ f (states w)
@@ -114,14 +121,14 @@ module _ (g : Setup) (id : ℕ) (v : View) where
       in-here : (phase : ℕ) → is_in g.plan states' phase u ≡ one_if (phase_of n == phase)
       in-here phase = ap (λ (b : Bool). cond b (one_if (phase_of (states' u) == phase)) 0) (lt-ltb u (units_of g.plan) near) ∙ ap (λ (x : ℕ). one_if (phase_of x == phase)) (state-here m u n)
 
-      in-was : (phase : ℕ) → is_in g.plan states phase u ≡ one_if (phase_of (states u) == phase)
+      pub in-was : (phase : ℕ) → is_in g.plan states phase u ≡ one_if (phase_of (states u) == phase)
       in-was phase = ap (λ (b : Bool). cond b (one_if (phase_of (states u) == phase)) 0) (lt-ltb u (units_of g.plan) near)
 
       in-other : (phase w : ℕ) → w ≢ u → is_in g.plan states' phase w ≡ is_in g.plan states phase w
       in-other phase w ne = ap (λ (x : ℕ). cond (nat_lt w (units_of g.plan)) (one_if (phase_of x == phase)) 0) (state-other m u n w ne)
 
       -- one record more in a phase, or one less, or as before
-      in-moved : (phase f f' : ℕ) → one_if (phase_of n == phase) ≡ f' → one_if (phase_of (states u) == phase) ≡ f → (w : ℕ)
+      pub in-moved : (phase f f' : ℕ) → one_if (phase_of n == phase) ≡ f' → one_if (phase_of (states u) == phase) ≡ f → (w : ℕ)
           → is_in g.plan states' phase w + cond (u == w) f 0 ≡ is_in g.plan states phase w + cond (u == w) f' 0
       in-moved phase f f' now before w = by (cases_eq w u)
         where
@@ -152,19 +159,43 @@ module _ (g : Setup) (id : ℕ) (v : View) where
         running = (l fits).running;
       })
 
-      shaped-now : IsStateWord n → (w : ℕ) → w < units_of g.plan → IsStateWord (states' w)
+      pub shaped-now : IsStateWord n → (w : ℕ) → w < units_of g.plan → IsStateWord (states' w)
       shaped-now is w low = by (cases_eq w u)
         where
           by : (w ≡ u) ⊎ (w ≢ u) → IsStateWord (states' w)
           by (inl e) = subst (λ (x : ℕ). IsStateWord (states' x)) (sym e) (subst IsStateWord (sym (state-here m u n)) is)
           by (inr ne) = subst IsStateWord (sym (state-other m u n w ne)) (l shaped w low)
 
+      -- where the record at u has no list, does not wait, and is none afterwards, lists stay
+      waits-stay : (w : View) → seen waits v ≡ seen waits w → is_open states heads u ≡ false → ¬ (phase_of (states u) ≡ 2) → phase_of n ≤ 1
+          → Says g waits s (put m (state u) n) (map (seen waits) (slice_set vs id w))
+      waits-stay w same unlisted not_waiting low = frames g vs id v at waits s (put m (state u) n) w same
+          (waits-state g.plan states heads (λ x. m (next x)) (map (seen waits) vs) (l waits) u states' (state-other m u n) unlisted not_waiting (omega (arith, low, ap phase_of (state-here m u n))))
+
+      -- where nobody refers to it, all that was seen stays
+      sights-stay : (w : View) → seen sights v ≡ seen sights w → ((k : ℕ) (x : Knows) → At (map (seen sights) vs) k x → times u x.futures ≡ 0)
+          → Says g sights s (put m (state u) n) (map (seen sights) (slice_set vs id w))
+      sights-stay w same nobody = frames g vs id v at sights s (put m (state u) n) w same
+          (sights-written heads heads (λ x. m (task x)) (λ x. m (task x)) states states' (map (seen sights) vs) (l sights)
+          (λ k x h there has. record { later = inl refl; task_same = refl; done_same = λ is. state-other m u n x (λ e. omega (arith, has, nobody k h there, ap (λ (y : ℕ). times y h.futures) e)) }))
+
+      -- nobody refers to what is no record
+      nobody-refers : is_record (states u) ≡ false → (k : ℕ) (x : Knows) → At (map (seen sights) vs) k x → times u x.futures ≡ 0
+      nobody-refers none k x there = by (cases_eq (times u x.futures) 0)
+        where
+          by : (times u x.futures ≡ 0) ⊎ (times u x.futures ≢ 0) → times u x.futures ≡ 0
+          by (inl e) = e
+          by (inr ne) = absurd (true≢false (sym (sighted g m vs s l k x there u (omega (arith, ne))).1 ∙ none))
+
+      no-list : is_record (states u) ≡ false → is_open states heads u ≡ false
+      no-list none = unread g.plan states heads (λ x. m (next x)) (map (seen waits) vs) (l waits) u states heads none
+
       -- words of records that are nobody's own at u stay
-      words-kept : (k : ℕ) (h : Hands) → At owners k h → made_at u h.made ≡ 0 → (a : Addr) → is_own h.made h.runs a ≡ true → record_words (put m (state u) n) a ≡ record_words m a
+      pub words-kept : (k : ℕ) (h : Hands) → At owners k h → made_at u h.made ≡ 0 → (a : Addr) → is_own h.made h.runs a ≡ true → record_words (put m (state u) n) a ≡ record_words m a
       words-kept k h there none a mine = words-state m u n a
           (λ w e same. omega (arith, none, state-own h.made h.runs u (subst (λ (b : Addr). is_own h.made h.runs b ≡ true) (e ∙ ap state same) mine)))
 
-      not-made : ¬ (phase_of (states u) ≡ 1) → (k : ℕ) (h : Hands) → At owners k h → made_at u h.made ≡ 0
+      pub not-made : ¬ (phase_of (states u) ≡ 1) → (k : ℕ) (h : Hands) → At owners k h → made_at u h.made ≡ 0
       not-made other k h there = by (cases_eq (made_at u h.made) 0)
         where
           by : (made_at u h.made ≡ 0) ⊎ (made_at u h.made ≢ 0) → made_at u h.made ≡ 0
@@ -179,16 +210,16 @@ module _ (g : Setup) (id : ℕ) (v : View) where
       abbrev after_found : View
       after_found = saw (state u) (m (state u)) (founded x v)
 
-      block_is : IsBlock g.plan u x.class
+      pub block_is : IsBlock g.plan u x.class
       block_is = (l pool).blocks id (seen pool v) hand_at has.0 x has.1
 
       free : (is_used (states u) ≡ 0) × (class_of (supers (superblock_of g.plan u)) ≡ x.class)
       free = block_free g.plan supers (bit_in m) states hands id (seen pool v) hand_at (l pool) (λ j d. omega arith) x has block_is
 
-      none_there : phase_of (states u) ≡ 0
+      pub none_there : phase_of (states u) ≡ 0
       none_there = free-phase (states u) free.0
 
-      found-parts : (q : Part) → Says g q s (put m (state u) 1) (map (seen q) (slice_set vs id after_found))
+      pub found-parts : (q : Part) → Says g q s (put m (state u) 1) (map (seen q) (slice_set vs id after_found))
       found-parts pool = moves g vs id v at pool s (put m (state u) 1) after_found
           (pool-came g.plan supers states (states' u 1 block_is.inside) u x.class block_is free.1 free.0 (ap is_used (state-here m u 1)) (state-other m u 1) (bit_in m) hands id (seen pool v) (seen pool after_found)
           hand_at (l pool) (λ j k. omega (arith, dropped-block x (λ (y : Block). hit (superblock_of g.plan y.unit) y.class j k) v.blocks has))
@@ -217,6 +248,8 @@ module _ (g : Setup) (id : ℕ) (v : View) where
               (λ e. omega (arith, e, none_there)) (words-kept u 1 block_is.inside k h there (not-made u 1 block_is.inside (λ e. omega (arith, e, none_there)) k h there))
       found-parts shaped = frames g vs id v at shaped s (put m (state u) 1) after_found refl
           (shaped-now u 1 block_is.inside (record { phase_fits = omega arith; priority_fits = omega arith; tag_fits = omega arith; number_fits = omega arith }))
+      found-parts waits = waits-stay u 1 block_is.inside after_found refl (no-list u 1 block_is.inside (ap test_record none_there)) (λ e. omega (arith, e, none_there)) (omega arith)
+      found-parts sights = sights-stay u 1 block_is.inside after_found refl (nobody-refers u 1 block_is.inside (ap test_record none_there))
       found-parts q = frames g vs id v at q s (put m (state u) 1) after_found refl (l q)
 
     -- unmake
@@ -227,7 +260,7 @@ module _ (g : Setup) (id : ℕ) (v : View) where
       abbrev after_unmake : View
       after_unmake = saw (state unit) (m (state unit)) (unmade unit r.class v)
 
-      made_there : (unit < units_of g.plan) × (phase_of (states unit) ≡ 1)
+      pub made_there : (unit < units_of g.plan) × (phase_of (states unit) ≡ 1)
       made_there = made-phase g.plan supers states (record_words m) owners (l own) id (seen own v) owner_at unit (made-counts v.made r has)
 
       class_is : r.class ≡ class_of (supers (superblock_of g.plan unit))
@@ -241,14 +274,14 @@ module _ (g : Setup) (id : ℕ) (v : View) where
       only_made : total (λ (h : Hands). made_at unit h.made) owners ≡ 1
       only_made = (l own).made unit ∙ in-was unit 0 made_there.0 1 ∙ ap (λ (p : ℕ). one_if (p == 1)) made_there.1
 
-      made_few : made_at unit v.made ≤ 1
+      pub made_few : made_at unit v.made ≤ 1
       made_few = omega (arith, only_made, total-member (λ (h : Hands). made_at unit h.made) owners id (seen own v) owner_at)
 
       nobody-else : (k : ℕ) (h : Hands) → k ≢ id → At owners k h → made_at unit h.made ≡ 0
       nobody-else k h ne there =
           omega (arith, only_made, made-counts v.made r has, total-two_members (λ (x : Hands). made_at unit x.made) owners k id h (seen own v) ne there owner_at)
 
-      unmake-parts : (q : Part) → Says g q s (put m (state unit) 0) (map (seen q) (slice_set vs id after_unmake))
+      pub unmake-parts : (q : Part) → Says g q s (put m (state unit) 0) (map (seen q) (slice_set vs id after_unmake))
       unmake-parts pool = moves g vs id v at pool s (put m (state unit) 0) after_unmake
           (pool-went g.plan supers (states' unit 0 made_there.0) states unit r.class in_its_block (sym class_is) (ap is_used (state-here m unit 0))
           (used-from (states unit) (omega (arith, made_there.1))) (λ w ne. sym (state-other m unit 0 w ne)) (bit_in m) hands id (seen pool v) (seen pool after_unmake)
@@ -295,6 +328,8 @@ module _ (g : Setup) (id : ℕ) (v : View) where
               )
       unmake-parts shaped = frames g vs id v at shaped s (put m (state unit) 0) after_unmake refl
           (shaped-now unit 0 made_there.0 (record { phase_fits = omega arith; priority_fits = omega arith; tag_fits = omega arith; number_fits = omega arith }))
+      unmake-parts waits = waits-stay unit 0 made_there.0 after_unmake refl (no-list unit 0 made_there.0 (ap test_record made_there.1)) (λ e. omega (arith, e, made_there.1)) (omega arith)
+      unmake-parts sights = sights-stay unit 0 made_there.0 after_unmake refl (nobody-refers unit 0 made_there.0 (ap test_record made_there.1))
       unmake-parts q = frames g vs id v at q s (put m (state unit) 0) after_unmake refl (l q)
 
     -- retire
@@ -320,7 +355,7 @@ module _ (g : Setup) (id : ℕ) (v : View) where
       nothing : 0 ≡ places_in g.checked states (λ w. m (refs w)) (λ r. m (root r)) (frame_in m) g.plan bags u + own_in g.checked states (λ w. m (refs w)) (λ r. m (root r)) (frame_in m) bags u
       nothing = sym at_its_last.1 ∙ (l references).counted u near at_its_last.0
 
-      is_done : phase_of (states u) ≡ 5
+      pub is_done : phase_of (states u) ≡ 5
       is_done = by (is_live (states u)) refl
         where
           by : (b : Bool) → is_live (states u) ≡ b → phase_of (states u) ≡ 5
@@ -331,7 +366,19 @@ module _ (g : Setup) (id : ℕ) (v : View) where
               by_phase (inl high) = omega (arith, high, record-phase (states u) at_its_last.0)
               by_phase (inr low) = absurd (true≢false (sym (and_from _ _ (le-leb 2 (phase_of (states u)) (omega (arith, record-phase (states u) at_its_last.0))) (le-leb (phase_of (states u)) 4 low)) ∙ e))
 
-      in_block : IsBlock g.plan u class
+      -- a list that is open is still to be closed by a hand, which has the scheduler's own reference
+      pub unlisted : is_open states heads u ≡ false
+      unlisted = false_from_ne_true (is_open states heads u) (λ e. omega (arith, (l waits).done_open u near is_done e, unclosed_few, nothing, kept-done g m vs s l u))
+        where
+          unclosed_few : total (λ (x : Waits). unclosed_at u x.done) (map (seen waits) vs) ≤ total (λ (h : Hands). done_at u h.done) owners
+          unclosed_few = omega (
+            arith,
+            total-map (λ (x : Waits). unclosed_at u x.done) (seen waits) vs,
+            total-map (λ (h : Hands). done_at u h.done) (seen own) vs,
+            total-le (λ (x : View). unclosed_at u x.done) (λ (x : View). done_at u x.done) vs (λ k x there. unclosed-le u x.done),
+          )
+
+      pub in_block : IsBlock g.plan u class
       in_block = record_block g.plan supers (bit_in m) states hands (l pool) u near (used-from (states u) (omega (arith, is_done)))
 
       abbrev now : ℕ → ℕ
@@ -395,7 +442,7 @@ module _ (g : Setup) (id : ℕ) (v : View) where
           last w low (inr ne) = omega (arith, leaving-less w, one-apart u w (λ e. ne (sym e)), was.last w low)
               ∙ ap (λ (x : ℕ). cond (is_record x) (one_if (m (refs w) == 0)) 0) (sym (state-other m u 0 w ne))
 
-      retire-parts : (q : Part) → Says g q s (put m (state u) 0) (map (seen q) (slice_set vs id after_retire))
+      pub retire-parts : (q : Part) → Says g q s (put m (state u) 0) (map (seen q) (slice_set vs id after_retire))
       retire-parts pool = moves g vs id v at pool s (put m (state u) 0) after_retire
           (pool-went g.plan supers now states u class in_block refl (ap is_used (state-here m u 0))
           (used-from (states u) (omega (arith, is_done))) (λ w ne. sym (state-other m u 0 w ne)) (bit_in m) hands id (seen pool v) (seen pool after_retire)
@@ -422,24 +469,34 @@ module _ (g : Setup) (id : ℕ) (v : View) where
           done w (inr ne) = omega (arith, (l own).done w, in-other u 0 near 5 w ne)
       retire-parts shaped = frames g vs id v at shaped s (put m (state u) 0) after_retire refl
           (shaped-now u 0 near (record { phase_fits = omega arith; priority_fits = omega arith; tag_fits = omega arith; number_fits = omega arith }))
+      retire-parts waits = waits-stay u 0 near after_retire refl unlisted (λ e. omega (arith, e, is_done)) (omega arith)
+      retire-parts sights = sights-stay u 0 near after_retire refl (λ k x there. no_future k x there (map_at (seen sights) vs k x there))
+        where
+          no_future : (k : ℕ) (x : Knows) → At (map (seen sights) vs) k x → (t : View) × At vs k t × (seen sights t ≡ x) → times u x.futures ≡ 0
+          no_future k x there t = omega (
+            arith,
+            nothing,
+            ap (λ (y : Knows). times u y.futures) t.2,
+            total-member (λ (b : Bag). times u b.futures) bags k (seen references t.0) (at_map (seen references) vs k t.0 t.1),
+          )
       retire-parts q = frames g vs id v at q s (put m (state u) 0) after_retire refl (l q)
 
   -- found
   pub founds-at : (x : Block) → Has x v.blocks → x.fresh ≡ true → 1 ≤ v.parts → Keeps g id v (state x.unit) (λ n. 1) (λ r w. (n : ℕ) × (w ≡ saw (state x.unit) n (founded x v)))
-  founds-at x has fresh in_use m vs s l at small = (saw (state x.unit) (m (state x.unit)) (founded x v), (s, found-parts m vs s l at x has fresh in_use), (m (state x.unit), refl), refl)
+  founds-at x has fresh in_use m vs s l at small = (saw (state x.unit) (m (state x.unit)) (founded x v), found-parts m vs s l at x has fresh in_use, (m (state x.unit), refl), (refl, refl))
 
   -- unmake
   pub unmakes-at : (r : Made) → Has r v.made → r.number ≡ 0 → 1 ≤ v.parts → Keeps g id v (state r.unit) (λ n. 0) (λ k w. (n : ℕ) × (w ≡ saw (state r.unit) n (unmade r.unit r.class v)))
-  unmakes-at r has no_number in_use m vs s l at small = (saw (state r.unit) (m (state r.unit)) (unmade r.unit r.class v), (s, unmake-parts m vs s l at r has no_number in_use), (m (state r.unit), refl), refl)
+  unmakes-at r has no_number in_use m vs s l at small = (saw (state r.unit) (m (state r.unit)) (unmade r.unit r.class v), unmake-parts m vs s l at r has no_number in_use, (m (state r.unit), refl), (refl, refl))
 
   -- retire; the class of the block is the superblock's
   pub retires-at : (u : ℕ) → u < units_of g.plan → 1 ≤ times u v.retiring → 1 ≤ v.parts
       → Keeps g id v (state u) (λ n. 0) (λ k w. (c : ℕ) × IsBlock g.plan u c × ((n : ℕ) × (w ≡ saw (state u) n (retired u c v))))
   retires-at u near has in_use m vs s l at small = (
     saw (state u) (m (state u)) (retired u (class_of (m (super (superblock_of g.plan u)))) v),
-    (s, retire-parts m vs s l at u near has in_use),
+    retire-parts m vs s l at u near has in_use,
     (class_of (m (super (superblock_of g.plan u))), in_block m vs s l at u near has in_use, (m (state u), refl)),
-    refl,
+    (refl, refl),
   )
 
   -- a load of a superblock's word tells the class of a block there
@@ -448,7 +505,7 @@ module _ (g : Setup) (id : ℕ) (v : View) where
   class-glances-at u near m vs s l at small =
       let i : ℕ = superblock_of g.plan u in (
         saw (super i) (m (super i)) v,
-        kept_word g m (super i) (m (super i)) _ refl (sees g id v (super i) (m (super i)) m vs s l at),
+        kept_word g s m (super i) (m (super i)) _ refl (sees g id v (super i) (m (super i)) m vs s l at),
         (
           refl,
           ((l pool).kept i (superblock_in g.plan u near)).class_fits,
@@ -457,5 +514,5 @@ module _ (g : Setup) (id : ℕ) (v : View) where
               ap (λ (w : ℕ). class_of (m (super (superblock_of g.plan w)))) (sym e)
               ∙ (block_free g.plan (λ j. m (super j)) (bit_in m) (λ w. m (state w)) (map (seen pool) vs) id (seen pool v) (hand_at m vs s l at) (l pool) (λ j d. omega arith) x has is).1,
         ),
-        refl,
+        (refl, refl),
       )

@@ -3,7 +3,7 @@ use Rattle.std.proofs.Common.{◌≡◌, ◌≢◌, ◌∙◌, ◌⊎◌, inl, i
 use Rattle.std.proofs.lemmas.Bool.{eqb-true, eq-eqb, ne_eqb}
 use Rattle.record_core.specs.Counting.{At, Has, dropped}
 use Rattle.kt_words.specs.Capacity.{block_units}
-use Rattle.table_core.specs.Addresses.{Addr, Mem, state, refs, is_same, put}
+use Rattle.table_core.specs.Addresses.{Addr, Mem, state, refs, head, next, task, is_same, put}
 use Rattle.table_core.specs.Holdings.{Made, Run}
 use Rattle.table_core.specs.Own.{is_word_of, is_result_of, any, is_own, made_at, known_in, record_words}
 use Rattle.record_core.proofs.CountFacts.{passing-one}
@@ -73,6 +73,15 @@ module _ (made : List Made) (runs : List Run) where
   pub refs-own : (u : ℕ) → is_own made runs (refs u) ≡ true → 1 ≤ made_at u made
   refs-own u e = header-own u (refs u) (λ x units. refl) (λ x units. refl) e
 
+  pub head-own : (u : ℕ) → is_own made runs (head u) ≡ true → 1 ≤ made_at u made
+  head-own u e = header-own u (head u) (λ x units. refl) (λ x units. refl) e
+
+  pub next-own : (u : ℕ) → is_own made runs (next u) ≡ true → 1 ≤ made_at u made
+  next-own u e = header-own u (next u) (λ x units. refl) (λ x units. refl) e
+
+  pub task-own : (u : ℕ) → is_own made runs (task u) ≡ true → 1 ≤ made_at u made
+  task-own u e = header-own u (task u) (λ x units. refl) (λ x units. refl) e
+
 module _ (m : Mem) (u n : ℕ) where
   -- a word of a record is written: other words are as before
   pub words-state : (a : Addr) → ((w : ℕ) → a ≡ state w → w ≢ u) → record_words (put m (state u) n) a ≡ record_words m a
@@ -82,6 +91,14 @@ module _ (m : Mem) (u n : ℕ) where
   pub words-refs : (a : Addr) → ((w : ℕ) → a ≡ refs w → w ≢ u) → record_words (put m (refs u) n) a ≡ record_words m a
   words-refs (refs w) other = ap (λ (b : Bool). cond b n (m (refs w))) (ne_eqb u w (λ e. other w refl (sym e)))
   words-refs a other = refl
+
+  pub words-head : (a : Addr) → ((w : ℕ) → a ≡ head w → w ≢ u) → record_words (put m (head u) n) a ≡ record_words m a
+  words-head (head w) other = ap (λ (b : Bool). cond b n (m (head w))) (ne_eqb u w (λ e. other w refl (sym e)))
+  words-head a other = refl
+
+  pub words-next : (a : Addr) → ((w : ℕ) → a ≡ next w → w ≢ u) → record_words (put m (next u) n) a ≡ record_words m a
+  words-next (next w) other = ap (λ (b : Bool). cond b n (m (next w))) (ne_eqb u w (λ e. other w refl (sym e)))
+  words-next a other = refl
 
 -- what is left of what was known: nothing of the record at u
 pub forgets : (u units : ℕ) (l : List (Addr × ℕ)) (a : Addr) (n : ℕ) → known_in a (forget_words u units l) ≡ Some n → (known_in a l ≡ Some n) × (is_word_of u units a ≡ false)

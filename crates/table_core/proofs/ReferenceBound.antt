@@ -16,7 +16,7 @@ use Rattle.table_core.specs.Pool.{superblock_of}
 use Rattle.table_core.specs.References.{Bag, is_saved, is_live, is_record, saved_in}
 use Rattle.table_core.specs.Own.{Hands, done_at, is_in}
 use Rattle.table_core.specs.Story.{Story}
-use Rattle.table_core.specs.Parts.{pool, shares, bounds, references, fits, own, numbers, seen, AllSay}
+use Rattle.table_core.specs.Parts.{pool, shares, bounds, references, fits, own, numbers, totals, seen, AllSay}
 use Rattle.table_core.specs.declared.setup.Setup.{Setup}
 use Rattle.table_core.specs.declared.view.View.{View}
 use Rattle.table_core.proofs.ListFacts.{at_map}
@@ -73,6 +73,7 @@ module _ (g : Setup) (m : Mem) (vs : List View) (s : Story) (l : AllSay g s m vs
         total-map (λ (n : Numbered). n.calls) (seen numbers) vs,
         (l numbers).taken,
         (l numbers).calls,
+        (l totals).drawn,
       )
 
   -- the scheduler's own references are those of done records in hands

@@ -1,28 +1,32 @@
 -- Each kind of step on references keeps the rule.
-use Rattle.std.proofs.Common.{◌≡◌, ◌≢◌, ◌∙◌, ◌⊎◌, inl, inr, ℕ, ◌+◌, ◌-◌, ◌%◌, ◌^◌, ◌<◌, ◌≤◌, Bool, true, false, cond, ◌==◌, List, map, length, refl, sym, ap, subst, arith}
-use Rattle.std.specs.Prelude.{slice_set}
-use Rattle.std.proofs.lemmas.Bool.{cases_eq, eq-eqb, ne_eqb}
+use Rattle.std.proofs.Common.{◌≡◌, ◌≢◌, ◌∙◌, ◌⊎◌, inl, inr, ℕ, ◌+◌, ◌-◌, ◌%◌, ◌^◌, ◌<◌, ◌≤◌, Bool, true, false, cond, ◌==◌, List, ◌∷◌, map, length, refl, sym, ap, subst, arith}
+use Rattle.std.specs.Prelude.{slice_set, not}
+use Rattle.std.proofs.lemmas.Bool.{cases_eq, eqb-true, eq-eqb, ne_eqb}
 use Rattle.record_core.specs.Counting.{At, Has, one_if, times}
 use Rattle.record_core.proofs.TotalFacts.{total-member}
-use Rattle.table_core.specs.Addresses.{Addr, Mem, super, state, refs, root, frame_in, units_of, put}
+use Rattle.table_core.specs.Addresses.{Addr, Mem, super, state, refs, head, next, task, root, frame_in, units_of, put}
 use Rattle.table_core.specs.Lists.{Each}
 use Rattle.table_core.specs.Holdings.{Done}
 use Rattle.table_core.specs.Story.{Story}
 use Rattle.table_core.specs.Bounds.{IsBounded}
 use Rattle.table_core.specs.References.{is_record, Bag}
 use Rattle.table_core.specs.Own.{Hands, done_at, is_own, record_words, OwnSound}
+use Rattle.table_core.specs.WaitLists.{is_open}
+use Rattle.table_core.specs.Sights.{Knows, IsKnown}
 use Rattle.table_core.specs.Views.{saw}
-use Rattle.table_core.specs.RecordViews.{is_at, referred, lessened, gave_up}
-use Rattle.table_core.specs.Parts.{Part, bounds, references, own, seen, Says, AllSay, Keeps}
+use Rattle.table_core.specs.RecordViews.{is_at, is_done_at, referred, lessened, gave_up}
+use Rattle.table_core.specs.Parts.{Part, bounds, references, own, waits, sights, seen, Says, AllSay, Keeps}
 use Rattle.table_core.specs.declared.setup.Setup.{Setup}
 use Rattle.table_core.specs.declared.view.View.{View}
-use Rattle.record_core.proofs.CountFacts.{times-some}
-use Rattle.table_core.proofs.ListFacts.{at_map, each-set, length-dropped-has}
+use Rattle.record_core.proofs.CountFacts.{times-some, total-dropped}
+use Rattle.table_core.proofs.ListFacts.{at_map, each-set, each-dropped, length-dropped-has}
 use Rattle.table_core.proofs.Rule.{frames, moves}
 use Rattle.table_core.proofs.BagFacts.{times-dropped, times-done, done-dropped, times-last, one-here, one-apart, record-from, referred-hand}
 use Rattle.table_core.proofs.ReferenceBound.{refs-few}
 use Rattle.table_core.proofs.ClassFacts.{record-phase}
 use Rattle.table_core.proofs.OwnFacts.{hands-from, hand-kept, own-moved, own-written, made-phase, done-counts}
+use Rattle.table_core.proofs.SightFacts.{known-more, known-left}
+use Rattle.table_core.proofs.WaitFacts.{IsWaitHand, wait-hands, waits-hand}
 use Rattle.table_core.proofs.RecordWords.{refs-own, words-refs}
 
 -- a reference word that is written, and those of others
@@ -61,6 +65,15 @@ module _ (g : Setup) (id : ℕ) (v : View) where
 
     abbrev root_words : ℕ → ℕ
     root_words r = m (root r)
+
+    abbrev heads : ℕ → ℕ
+    heads w = m (head w)
+
+    abbrev tasks : ℕ → ℕ
+    tasks w = m (task w)
+
+    abbrev known : Knows → Type 0
+    known = IsKnown heads tasks states
 
     abbrev bags : List Bag
     bags = map (seen references) vs
@@ -134,6 +147,9 @@ module _ (g : Setup) (id : ℕ) (v : View) where
         spent = λ none. absurd (omega (arith, none, in_use));
       }))
       more-parts own = frames g vs id v at own s (put m (refs u) n) after_more refl (own-refs u n is)
+      more-parts sights = moves g vs id v at sights s (put m (refs u) n) after_more
+          (each-set known (map (seen sights) vs) id (seen sights after_more) (l sights)
+          (known-more heads tasks states v.futures (u ∷ v.futures) v.sights (λ w has. omega (arith, has)) (l sights id (seen sights v) (at_map (seen sights) vs id v at))))
       more-parts q = frames g vs id v at q s (put m (refs u) n) after_more refl (l q)
 
     -- less
@@ -141,7 +157,7 @@ module _ (g : Setup) (id : ℕ) (v : View) where
       abbrev after_less : View
       after_less = saw (refs u) (counts u) (lessened u (counts u) v)
 
-      less-parts : (q : Part) → Says g q s (put m (refs u) n) (map (seen q) (slice_set vs id after_less))
+      pub less-parts : (q : Part) → Says g q s (put m (refs u) n) (map (seen q) (slice_set vs id after_less))
       less-parts references =
           let is = is-referred u near (omega (arith, has)) in let some = counted-some u near (omega (arith, has)) in
           refers u n near is some after_less
@@ -156,17 +172,20 @@ module _ (g : Setup) (id : ℕ) (v : View) where
         spent = λ none. absurd (omega (arith, none, in_use));
       }))
       less-parts own = frames g vs id v at own s (put m (refs u) n) after_less refl (own-refs u n (is-referred u near (omega (arith, has))))
+      less-parts sights = moves g vs id v at sights s (put m (refs u) n) after_less
+          (each-set known (map (seen sights) vs) id (seen sights after_less) (l sights)
+          (known-left heads tasks states u v.futures v.sights has (l sights id (seen sights v) (at_map (seen sights) vs id v at))))
       less-parts q = frames g vs id v at q s (put m (refs u) n) after_less refl (l q)
 
-    -- give up
-    module _ (u n : ℕ) (near : u < units_of g.plan) (d : Done) (has : Has d v.done) (unit_is : d.unit ≡ u) (in_use : 1 ≤ v.parts) (one_less : 1 ≤ counts u → n ≡ counts u - 1) where
+    -- give up, once the list of the record is closed
+    module _ (u n : ℕ) (near : u < units_of g.plan) (d : Done) (has : Has d v.done) (unit_is : d.unit ≡ u) (closed : d.closed ≡ true) (in_use : 1 ≤ v.parts) (one_less : 1 ≤ counts u → n ≡ counts u - 1) where
       abbrev after_give_up : View
       after_give_up = saw (refs u) (counts u) (gave_up u (counts u) v)
 
       done_some : 1 ≤ times u v.futures + done_at u v.done
       done_some = omega (arith, subst (λ (w : ℕ). 1 ≤ done_at w v.done) unit_is (done-counts v.done d has))
 
-      give_up-parts : (q : Part) → Says g q s (put m (refs u) n) (map (seen q) (slice_set vs id after_give_up))
+      pub give_up-parts : (q : Part) → Says g q s (put m (refs u) n) (map (seen q) (slice_set vs id after_give_up))
       give_up-parts references =
           let is = is-referred u near done_some in let some = counted-some u near done_some in
           refers u n near is some after_give_up
@@ -193,6 +212,35 @@ module _ (g : Setup) (id : ℕ) (v : View) where
           kept : (k : ℕ) (h : Hands) → At (map (seen own) vs) k h → (a : Addr) → is_own h.made h.runs a ≡ true → record_words (put m (refs u) n) a ≡ record_words m a
           kept k h there a mine = words-refs m u n a
               (λ w e same. not_made u (is-referred u near done_some) k h there (subst (λ (b : Addr). is_own h.made h.runs b ≡ true) (e ∙ ap refs same) mine))
+      give_up-parts waits = moves g vs id v at waits s (put m (refs u) n) after_give_up
+          (waits-hand states heads (λ w. m (next w)) g.plan (map (seen waits) vs) id (seen waits v) (seen waits after_give_up) (at_map (seen waits) vs id v at) (l waits)
+          (λ w. omega (
+            arith,
+            total-dropped (λ (x : Done). cond x.closed 0 (one_if (x.unit == w))) (is_done_at u) 0 v.done
+                (λ k x there here. ap (λ (b : Bool). cond b 0 (one_if (x.unit == w))) (all_closed k x there (eqb-true x.unit u here)))
+                (record { member = d; there = has; passes = eq-eqb d.unit u unit_is }),
+          ))
+          (λ w. refl) (λ w. refl)
+          (record {
+            done_closed = each-dropped _ (is_done_at u) v.done mine.done_closed;
+            chains = mine.chains;
+            numbers = mine.numbers;
+            linked = mine.linked;
+          }))
+        where
+          mine : IsWaitHand states heads (λ w. m (next w)) (seen waits v)
+          mine = wait-hands states heads (λ w. m (next w)) g.plan (map (seen waits) vs) (l waits) id (seen waits v) (at_map (seen waits) vs id v at)
+
+          -- the list of the record is closed, whichever entry is taken
+          all_closed : (k : ℕ) (x : Done) → At v.done k x → x.unit ≡ u → x.closed ≡ true
+          all_closed k x there e =
+              let same : not x.closed ≡ false =
+              sym (mine.done_closed k x there) ∙ ap (is_open states heads) (e ∙ sym unit_is) ∙ mine.done_closed has.0 d has.1 ∙ ap not closed in
+              by x.closed same
+            where
+              by : (b : Bool) → not b ≡ false → b ≡ true
+              by true e = refl
+              by false e = sym e
       give_up-parts q = frames g vs id v at q s (put m (refs u) n) after_give_up refl (l q)
 
   -- more: a reference to a record that the hand has one to
@@ -201,13 +249,10 @@ module _ (g : Setup) (id : ℕ) (v : View) where
   mores-at u near in_use has room m vs s l at small =
       let is = is-referred m vs s l at u near (omega (arith, has)) in (
         saw (refs u) (m (refs u)) (referred u v),
-        (
-          s,
-          more-parts m vs s l at u ((m (refs u) + 1) % 2 ^ 64) near is (counted-some m vs s l at u near (omega (arith, has))) in_use room
-              (omega (arith, refs-few g m vs s l u near is)),
-        ),
+        more-parts m vs s l at u ((m (refs u) + 1) % 2 ^ 64) near is (counted-some m vs s l at u near (omega (arith, has))) in_use room
+            (omega (arith, refs-few g m vs s l u near is)),
         refl,
-        refl,
+        (refl, refl),
       )
 
   -- less
@@ -215,17 +260,17 @@ module _ (g : Setup) (id : ℕ) (v : View) where
       → Keeps g id v (refs u) (λ n. (n + (2 ^ 64 - 1)) % 2 ^ 64) (λ r w. w ≡ saw (refs u) r (lessened u r v))
   lessens-at u near in_use has m vs s l at small = (
     saw (refs u) (m (refs u)) (lessened u (m (refs u)) v),
-    (s, less-parts m vs s l at u ((m (refs u) + (2 ^ 64 - 1)) % 2 ^ 64) near has in_use (λ some. omega (arith, some, small))),
+    less-parts m vs s l at u ((m (refs u) + (2 ^ 64 - 1)) % 2 ^ 64) near has in_use (λ some. omega (arith, some, small)),
     refl,
-    refl,
+    (refl, refl),
   )
 
-  -- give up
-  pub gives-up-at : (u : ℕ) → u < units_of g.plan → 1 ≤ v.parts → (d : Done) → Has d v.done → d.unit ≡ u
+  -- give up, once the list of the record is closed
+  pub gives-up-at : (u : ℕ) → u < units_of g.plan → 1 ≤ v.parts → (d : Done) → Has d v.done → d.unit ≡ u → d.closed ≡ true
       → Keeps g id v (refs u) (λ n. (n + (2 ^ 64 - 1)) % 2 ^ 64) (λ r w. w ≡ saw (refs u) r (gave_up u r v))
-  gives-up-at u near in_use d has unit_is m vs s l at small = (
+  gives-up-at u near in_use d has unit_is closed m vs s l at small = (
     saw (refs u) (m (refs u)) (gave_up u (m (refs u)) v),
-    (s, give_up-parts m vs s l at u ((m (refs u) + (2 ^ 64 - 1)) % 2 ^ 64) near d has unit_is in_use (λ some. omega (arith, some, small))),
+    give_up-parts m vs s l at u ((m (refs u) + (2 ^ 64 - 1)) % 2 ^ 64) near d has unit_is closed in_use (λ some. omega (arith, some, small)),
     refl,
-    refl,
+    (refl, refl),
   )

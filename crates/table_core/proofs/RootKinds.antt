@@ -7,17 +7,18 @@ use Rattle.record_core.specs.Counting.{At, Has, one_if, times}
 use Rattle.record_core.proofs.TotalFacts.{total-two_members, total-set}
 use Rattle.record_core.proofs.BelowFacts.{below-set, below-le, below-rises, below-member}
 use Rattle.task_syntax.specs.declared.program.Program.{Program}
-use Rattle.table_core.specs.Addresses.{Mem, state, refs, root, frame_in, units_of, put}
+use Rattle.table_core.specs.Addresses.{Mem, state, refs, head, task, root, frame_in, units_of, put}
 use Rattle.table_core.specs.Lists.{Each}
 use Rattle.table_core.specs.Holdings.{RootSays, Record, Null, Limit, Skipped}
 use Rattle.table_core.specs.Roots.{Turn, root_word, word_at, asked_in, FirstMissing, RootsSound}
 use Rattle.table_core.specs.Story.{Story}
 use Rattle.table_core.specs.Bounds.{IsBounded}
 use Rattle.table_core.specs.References.{is_record, Bag}
+use Rattle.table_core.specs.Sights.{IsKnown}
 use Rattle.table_core.specs.Views.{saw}
 use Rattle.table_core.specs.Naming.{MayName}
-use Rattle.table_core.specs.RecordViews.{is_at, referred, given_to_root, turned, asked_by, put_root}
-use Rattle.table_core.specs.Parts.{Part, bounds, references, roots, seen, Says, AllSay, Keeps}
+use Rattle.table_core.specs.RecordViews.{is_at, referred, given_to_root, sights_given, turned, asked_by, put_root}
+use Rattle.table_core.specs.Parts.{Part, bounds, references, roots, sights, seen, Says, AllSay, Keeps}
 use Rattle.table_core.specs.declared.setup.Setup.{Setup}
 use Rattle.table_core.specs.declared.view.View.{View}
 use Rattle.table_core.proofs.ListFacts.{at_map, each-set, set_cases, total-dropped_le, length-dropped_le}
@@ -25,6 +26,7 @@ use Rattle.table_core.proofs.Rule.{frames, moves}
 use Rattle.table_core.proofs.ReferenceFacts.{in_hands, kept_in, leaving, held_at, referred-moved}
 use Rattle.table_core.proofs.BagFacts.{times-dropped, record-from}
 use Rattle.table_core.proofs.ReferenceBound.{refs-few, units-few}
+use Rattle.table_core.proofs.SightFacts.{known-left}
 use Rattle.table_core.proofs.ReferenceKinds.{more-parts}
 
 -- members of a list that grows at its end
@@ -57,7 +59,7 @@ word-some Limit = omega arith
 word-some (Skipped r) = omega arith
 
 -- the words of roots, by what is said of them
-word-here : (asked : List RootSays) (r : ℕ) (says : RootSays) → At asked r says → word_at asked r ≡ root_word says
+pub word-here : (asked : List RootSays) (r : ℕ) (says : RootSays) → At asked r says → word_at asked r ≡ root_word says
 word-here [] r says at = let no_one : None ≡ Some says → ⊥ = λ e. cc in absurd (no_one at)
 word-here (s ∷ ss) zero says at = let same : s ≡ says = cc in ap root_word same
 word-here (s ∷ ss) (suc r) says at = word-here ss r says at
@@ -72,7 +74,7 @@ word-last : (asked : List RootSays) (says : RootSays) → word_at (asked ++ says
 word-last [] says = refl
 word-last (s ∷ ss) says = word-last ss says
 
-word-behind : (asked : List RootSays) (r : ℕ) → length asked ≤ r → word_at asked r ≡ 0
+pub word-behind : (asked : List RootSays) (r : ℕ) → length asked ≤ r → word_at asked r ≡ 0
 word-behind [] r far = refl
 word-behind (s ∷ ss) zero far = absurd (omega (arith, far))
 word-behind (s ∷ ss) (suc r) far = word-behind ss r (omega (arith, far))
@@ -132,6 +134,12 @@ given-shorter (Skipped j) futures = omega arith
 
 module _ (g : Setup) (id : ℕ) (v : View) where
   module _ (m : Mem) (vs : List View) (s : Story) (l : AllSay g s m vs) (at : At vs id v) (asked : List RootSays) (has_turn : v.turn ≡ asked ∷ []) where
+    abbrev heads : ℕ → ℕ
+    heads w = m (head w)
+
+    abbrev tasks : ℕ → ℕ
+    tasks w = m (task w)
+
     abbrev turns : List Turn
     turns = map (seen roots) vs
 
@@ -315,6 +323,18 @@ module _ (g : Setup) (id : ℕ) (v : View) where
             single = b.single;
             spent = λ none. absurd (omega (arith, none, in_use));
           }))
+      name-parts sights = moves g vs id v at sights s (put m (root r) n) after_name
+          (each-set (IsKnown heads tasks (λ w. m (state w))) (map (seen sights) vs) id (seen sights after_name) (l sights) (known-given says may))
+        where
+          mine : IsKnown heads tasks (λ w. m (state w)) (seen sights v)
+          mine = l sights id (seen sights v) (at_map (seen sights) vs id v at)
+
+          known-given : (x : RootSays) → MayName g asked v x
+              → IsKnown heads tasks (λ w. m (state w)) (record { futures = given_to_root x v.futures; sights = sights_given x (given_to_root x v.futures) v.sights })
+          known-given (Record u) ok = known-left heads tasks (λ w. m (state w)) u v.futures v.sights ok.1 mine
+          known-given Null ok = mine
+          known-given Limit ok = mine
+          known-given (Skipped j) ok = mine
       name-parts q = frames g vs id v at q s (put m (root r) n) after_name refl (l q)
 
   -- name: the next root is asked for
@@ -322,9 +342,9 @@ module _ (g : Setup) (id : ℕ) (v : View) where
       → Keeps g id v (root (length asked)) (λ n. root_word says) (λ r w. (n : ℕ) × (w ≡ saw (root (length asked)) n (put_root says v)))
   names-at asked has_turn says few may in_use m vs s l at small = (
     saw (root (length asked)) (m (root (length asked))) (put_root says v),
-    (s, name-parts m vs s l at asked has_turn says few may in_use),
+    name-parts m vs s l at asked has_turn says few may in_use,
     (m (root (length asked)), refl),
-    refl,
+    (refl, refl),
   )
 
   -- more of a root: a reference to its record
@@ -333,7 +353,7 @@ module _ (g : Setup) (id : ℕ) (v : View) where
   root-mores-at asked has_turn r u low there in_use room m vs s l at small =
       let t = root-record m vs s l at asked has_turn r u low there in (
         saw (refs u) (m (refs u)) (referred u v),
-        (s, more-parts g id v m vs s l at u ((m (refs u) + 1) % 2 ^ 64) t.0 t.1 t.2 in_use room (omega (arith, refs-few g m vs s l u t.0 t.1))),
+        more-parts g id v m vs s l at u ((m (refs u) + 1) % 2 ^ 64) t.0 t.1 t.2 in_use room (omega (arith, refs-few g m vs s l u t.0 t.1)),
         refl,
-        refl,
+        (refl, refl),
       )

@@ -1,26 +1,28 @@
--- Blocks of passes lie apart, and a pool of which nobody has anything is empty.
+-- Blocks of passes and of records lie apart, and a pool of which nobody has anything is empty.
 use Rattle.std.proofs.Common.{◌≡◌, ◌≢◌, ◌∙◌, ◌⊎◌, inl, inr, ℕ, suc, ◌+◌, ◌*◌, ◌<◌, ◌≤◌, ◌==◌, List, map, refl, sym, ap, subst, mul-le-mul_right, suc-mul, arith}
 use Rattle.std.specs.Prelude.{nat_lt, slice_get}
-use Rattle.std.proofs.lemmas.Bool.{cases_eq, cases_order}
+use Rattle.std.proofs.lemmas.Bool.{cases_eq}
 use Rattle.record_core.specs.Sums.{total}
 use Rattle.record_core.specs.Counting.{At, one_if}
 use Rattle.record_core.proofs.TotalFacts.{total-member, total-two_members, total-bounded}
 use Rattle.record_core.proofs.BelowFacts.{below-bounded}
-use Rattle.kt_words.specs.Capacity.{block_units}
 use Rattle.kt_words.specs.SuperWords.{count_of, class_of}
 use Rattle.kt_words.specs.StateWords.{phase_of}
-use Rattle.kt_words.proofs.GeometryFacts.{blocks_fill, blocks_end_inside}
+use Rattle.kt_words.proofs.GeometryFacts.{blocks_fill}
 use Rattle.table_core.specs.Addresses.{Mem, super, state, mem_of, units_of}
 use Rattle.table_core.specs.Lists.{Each, hit, hit3}
 use Rattle.table_core.specs.Holdings.{Place, Block}
 use Rattle.table_core.specs.Pool.{superblock_of, bit_of, IsBlock, is_used, Hand, places, owns, records, held, owned, IsKept, PoolSound, bit_in}
 use Rattle.table_core.specs.Parts.{pool, seen, Holds}
-use Rattle.table_core.specs.RuleLaws.{HasAt, AreApart, BlocksAreApart, HasNothing, UnusedPoolIsEmpty}
+use Rattle.table_core.specs.RuleLaws.{HasAt, ShareNone, AreApart, BlocksAreApart, StandsAt, class_at, RecordsAreApart, RecordsAndBlocksAreApart, HasNothing, UnusedPoolIsEmpty}
 use Rattle.table_core.specs.declared.setup.Setup.{Setup}
 use Rattle.table_core.specs.declared.view.View.{View}
 use Rattle.table_core.proofs.ListFacts.{at_map, map_at, same_some}
 use Rattle.table_core.proofs.PoolFacts.{cond-le, cond-at, hit-here, hit3-here, superblock_near, bit_below, owned-held}
 use Rattle.table_core.proofs.PoolSteps.{class_held}
+use Rattle.table_core.proofs.ClassFacts.{used-from}
+use Rattle.table_core.proofs.PoolRecords.{record_block, block_free}
+use Rattle.table_core.proofs.Owners.{blocks-apart}
 
 module _ (g : Setup) (ws : List ℕ) (vs : List View) (holds : Holds g ws vs) where
   abbrev m : Mem
@@ -109,53 +111,35 @@ module _ (g : Setup) (ws : List ℕ) (vs : List View) (holds : Holds g ws vs) wh
             total-two_members (owns g.plan (its x) x.class (its_bit x)) hands id id' (seen pool has.pass) (seen pool has'.pass) ne (hand_at id k x has) (hand_at id' k' y has'),
           )
 
-  -- the block at an earlier bit ends before the block at a later one begins
-  earlier_bit : (x y : Block) → IsBlock g.plan x.unit x.class → IsBlock g.plan y.unit y.class → its x ≡ its y → x.class ≡ y.class → its_bit x < its_bit y → x.unit + block_units x.class ≤ y.unit
-  earlier_bit x y is is' same_place same_class lt =
-      let up_to : suc (its_bit x) * block_units x.class ≤ its_bit y * block_units x.class = mul-le-mul_right (block_units x.class) (omega arith) in
-      omega (
-        arith,
-        is.at_its_place,
-        is'.at_its_place,
-        up_to,
-        suc-mul (its_bit x) (block_units x.class),
-        ap (λ (i : ℕ). i * g.plan.geometry.units) same_place,
-        ap (λ (c : ℕ). its_bit y * block_units c) same_class,
-      )
-
-  earlier_place : (x y : Block) → IsBlock g.plan x.unit x.class → IsBlock g.plan y.unit y.class → its x < its y → x.unit + block_units x.class ≤ y.unit
-  earlier_place x y is is' lt =
-      let up_to : suc (its x) * g.plan.geometry.units ≤ its y * g.plan.geometry.units = mul-le-mul_right g.plan.geometry.units (omega arith) in
-      omega (
-        arith,
-        is.at_its_place,
-        is'.at_its_place,
-        up_to,
-        suc-mul (its x) g.plan.geometry.units,
-        blocks_end_inside g.plan.geometry x.class (its_bit x) is.class_fits (bit_below g.plan x.unit x.class is),
-      )
-
   apart_from : (id k id' k' : ℕ) (x y : Block) → HasAt vs id k x → HasAt vs id' k' y → (id ≢ id') ⊎ (k ≢ k') → AreApart x y
-  apart_from id k id' k' x y has has' apart = places_of (cases_order (its x) (its y))
+  apart_from id k id' k' x y has has' apart = blocks-apart g.plan x.unit x.class y.unit y.class (is_block id k x has) (is_block id' k' y has') class_same other_unit
     where
-      is : IsBlock g.plan x.unit x.class
-      is = is_block id k x has
-
-      is' : IsBlock g.plan y.unit y.class
-      is' = is_block id' k' y has'
-
       class_same : its x ≡ its y → x.class ≡ y.class
       class_same e = sym (its_class id k x has) ∙ ap (λ (i : ℕ). class_of (supers i)) e ∙ its_class id' k' y has'
 
-      bits_of : its x ≡ its y → (its_bit x ≡ its_bit y) ⊎ ((its_bit x < its_bit y) ⊎ (its_bit y < its_bit x)) → AreApart x y
-      bits_of e (inl same) = absurd (not_both id k id' k' x y has has' apart e (class_same e) same)
-      bits_of e (inr (inl lt)) = inl (earlier_bit x y is is' e (class_same e) lt)
-      bits_of e (inr (inr gt)) = inr (earlier_bit y x is' is (sym e) (sym (class_same e)) gt)
+      other_unit : x.unit ≢ y.unit
+      other_unit e =
+          let same_place : its x ≡ its y = ap (superblock_of g.plan) e in
+          not_both id k id' k' x y has has' apart same_place (class_same same_place) (λ j. bit_of g.plan (e j) (class_same same_place j))
 
-      places_of : (its x ≡ its y) ⊎ ((its x < its y) ⊎ (its y < its x)) → AreApart x y
-      places_of (inl e) = bits_of e (cases_order (its_bit x) (its_bit y))
-      places_of (inr (inl lt)) = inl (earlier_place x y is is' lt)
-      places_of (inr (inr gt)) = inr (earlier_place y x is' is gt)
+  -- a record's block is one of its superblock's class
+  stands_block : (u : ℕ) → StandsAt g ws u → IsBlock g.plan u (class_at g ws u)
+  stands_block u stands = record_block g.plan supers (bit_in m) states hands sound u stands.near (used-from (states u) stands.used)
+
+  records_apart : (u w : ℕ) → StandsAt g ws u → StandsAt g ws w → u ≢ w → ShareNone u (class_at g ws u) w (class_at g ws w)
+  records_apart u w stands stands' ne =
+      blocks-apart g.plan u (class_at g ws u) w (class_at g ws w) (stands_block u stands) (stands_block w stands') (λ e. ap (λ (i : ℕ). class_of (supers i)) e) ne
+
+  -- where a pass has a block, no record stands
+  records_and_blocks : (id k u : ℕ) (x : Block) → HasAt vs id k x → StandsAt g ws u → ShareNone x.unit x.class u (class_at g ws u)
+  records_and_blocks id k u x has stands = blocks-apart g.plan x.unit x.class u (class_at g ws u) (is_block id k x has) (stands_block u stands)
+      (λ e. sym (its_class id k x has) ∙ ap (λ (i : ℕ). class_of (supers i)) e) other_unit
+    where
+      free : is_used (states x.unit) ≡ 0
+      free = (block_free g.plan supers (bit_in m) states hands id (seen pool has.pass) (hand_at id k x has) sound (λ j d. omega arith) x (k, has.there) (is_block id k x has)).0
+
+      other_unit : x.unit ≢ u
+      other_unit e = omega (arith, free, ap (λ (w : ℕ). is_used (states w)) e, used-from (states u) stands.used)
 
   module _ (nothing : Each HasNothing vs) (free : (u : ℕ) → u < units_of g.plan → phase_of (states u) ≡ 0) (i : ℕ) (inside : i < g.plan.geometry.superblocks) where
     kept : IsKept g.plan (supers i) (bit_in m i) (held g.plan supers states hands i) (owned g.plan supers states hands i)
@@ -194,6 +178,12 @@ module _ (g : Setup) (ws : List ℕ) (vs : List View) (holds : Holds g ws vs) wh
 
 pub blocks_are_apart : BlocksAreApart
 blocks_are_apart g ws vs holds = apart_from g ws vs holds
+
+pub records_are_apart : RecordsAreApart
+records_are_apart g ws vs holds = records_apart g ws vs holds
+
+pub records_and_blocks_are_apart : RecordsAndBlocksAreApart
+records_and_blocks_are_apart g ws vs holds = records_and_blocks g ws vs holds
 
 pub unused_pool_is_empty : UnusedPoolIsEmpty
 unused_pool_is_empty g ws vs holds nothing free = empty_at g ws vs holds nothing free

@@ -1,26 +1,28 @@
 -- A pass is split in two: the rule is kept.
-use Rattle.std.proofs.Common.{◌≡◌, ◌∙◌, ℕ, ◌*◌, ◌-◌, ◌≤◌, List, [], ◌∷◌, ◌++◌, map, length, refl, sym, ap, subst, arith}
+use Rattle.std.proofs.Common.{◌≡◌, ◌∙◌, ℕ, ◌*◌, ◌-◌, ◌≤◌, min, List, [], ◌∷◌, ◌++◌, map, length, refl, sym, ap, subst, arith}
 use Rattle.std.specs.Prelude.{slice_set, slice_index}
 use Rattle.std.proofs.lemmas.List.{map-set, map-append}
 use Rattle.atomic_table.specs.Table.{Splits}
 use Rattle.record_core.specs.Sums.{total}
 use Rattle.record_core.proofs.TotalFacts.{total-set, total-snoc}
-use Rattle.kt_words.specs.SuperWords.{class_of}
+use Rattle.kt_words.specs.SuperWords.{class_of, most_ever}
 use Rattle.kt_words.specs.Capacity.{block_units}
 use Rattle.frame_code.specs.Frames.{frame_length}
-use Rattle.table_core.specs.Addresses.{Mem, super, state, refs, root, frame_in, mem_of}
+use Rattle.table_core.specs.Addresses.{Mem, super, state, refs, head, next, task, root, frame_in, mem_of}
 use Rattle.record_core.specs.Counting.{At, times}
 use Rattle.table_core.specs.Lists.{Each}
 use Rattle.table_core.specs.Holdings.{Block, Look, Run}
 use Rattle.table_core.specs.Story.{Story}
 use Rattle.table_core.specs.Pool.{Hand, IsBlock, places, owns, bit_in}
-use Rattle.table_core.specs.Wins.{Won, Looked, IsLook, at_place}
+use Rattle.table_core.specs.Wins.{Won, Looked, IsLook, at_place, at_superblock}
 use Rattle.table_core.specs.Bounds.{IsBounded, Numbered}
 use Rattle.table_core.specs.References.{Bag}
 use Rattle.table_core.specs.Own.{Hands, made_at, runs_at, done_at, record_words}
 use Rattle.table_core.specs.Roots.{Turn}
+use Rattle.table_core.specs.WaitLists.{Waits, waits_at, chains_at, unclosed_at}
+use Rattle.table_core.specs.Sights.{IsKnown}
 use Rattle.table_core.specs.Views.{kept_half, idle_half}
-use Rattle.table_core.specs.Parts.{Part, pool, shares, bounds, wins, looks, evers, references, fits, own, roots, shaped, numbers, Seen, seen, Says, AllSay}
+use Rattle.table_core.specs.Parts.{Part, pool, shares, bounds, wins, looks, evers, references, fits, own, roots, shaped, numbers, totals, waits, sights, Seen, seen, Says, AllSay}
 use Rattle.table_core.specs.declared.setup.Setup.{Setup}
 use Rattle.table_core.specs.declared.view.View.{View}
 use Rattle.table_core.proofs.ListFacts.{found, at_map, each-set, each-append, each-cons, each-none}
@@ -28,6 +30,7 @@ use Rattle.table_core.proofs.PoolFacts.{pool-same}
 use Rattle.table_core.proofs.WinSteps.{look-kept}
 use Rattle.table_core.proofs.ReferenceFacts.{referred-same}
 use Rattle.table_core.proofs.OwnFacts.{IsHand, knows-nothing, hands-from, own-from}
+use Rattle.table_core.proofs.WaitFacts.{IsWaitHand, wait-hands, waits-same}
 use Rattle.table_core.proofs.Rule.{holds_at}
 
 module _ (g : Setup) (m : Mem) (vs : List View) (s : Story) (l : AllSay g s m vs) (id : ℕ) (v : View) (at : At vs id v) (room : 2 ≤ v.parts) where
@@ -57,7 +60,7 @@ module _ (g : Setup) (m : Mem) (vs : List View) (s : Story) (l : AllSay g s m vs
   look-split mine mine' x fewer = look-kept g.plan (λ i. m (super i)) (λ i. m (super i)) (map (seen looks) vs) (both looks) mine mine' x (omega arith)
       (omega (arith, fewer x.superblock (class_of x.word), sum-same looks (λ (u : Looked). at_place x.superblock (class_of x.word) u.wins) refl refl))
 
-  split_parts : (q : Part) → Says g q s m (both q)
+  pub split_parts : (q : Part) → Says g q s m (both q)
   split_parts pool = pool-same g.plan (λ i. m (super i)) (bit_in m) (λ u. m (state u)) (map (seen pool) vs) (both pool) (l pool)
       (λ i c. sum-same pool (places g.plan i c) refl refl) (λ i c b. sum-same pool (owns g.plan i c b) refl refl)
       (each-both pool (λ (h : Hand). Each (λ (b : Block). IsBlock g.plan b.unit b.class) h.blocks) ((l pool).blocks) ((l pool).blocks id (seen pool v) (at_map (seen pool) vs id v at)) (each-none _))
@@ -66,7 +69,10 @@ module _ (g : Setup) (m : Mem) (vs : List View) (s : Story) (l : AllSay g s m vs
   split_parts bounds = each-both bounds IsBounded (l bounds)
       (record { few = was_bounded.few; accepted = was_bounded.accepted; single = was_bounded.single; spent = λ none. absurd (omega (arith, none)) })
       (record { few = omega arith; accepted = omega arith; single = omega arith; spent = λ none. absurd (omega (arith, none)) })
-  split_parts wins = λ i c near. omega (arith, l wins i c near, sum-same wins (λ (u : Won). at_place i c u.wins) refl refl, sum-same wins (λ (u : Won). at_place i c u.settles) refl refl)
+  split_parts wins = record {
+    counts = λ i c near. omega (arith, (l wins).counts i c near, sum-same wins (λ (u : Won). at_place i c u.wins) refl refl, sum-same wins (λ (u : Won). at_place i c u.settles) refl refl);
+    ever = λ i near. (l wins).ever i near ∙ ap (λ (n : ℕ). min n most_ever) (sym (sum-same wins (λ (u : Won). at_superblock i u.wins) refl refl));
+  }
   split_parts looks = each-both looks (λ (u : Looked). Each (IsLook g.plan (λ i. m (super i)) (both looks) u.wins) u.looks)
       (λ j u at' k x there. look-split u.wins u.wins x (λ j c. omega arith) (l looks j u at' k x there))
       (λ k x there. look-split v.wins v.wins x (λ j c. omega arith) (l looks id (seen looks v) (at_map (seen looks) vs id v at) k x there))
@@ -100,10 +106,19 @@ module _ (g : Setup) (m : Mem) (vs : List View) (s : Story) (l : AllSay g s m vs
     taken = omega (arith, sum-same numbers (λ (n : Numbered). n.taken) refl refl, (l numbers).taken);
     calls = omega (arith, sum-same numbers (λ (n : Numbered). n.calls) refl refl, (l numbers).calls);
   }
+  split_parts totals = l totals
+  split_parts waits =
+      let hands = wait-hands (λ u. m (state u)) (λ u. m (head u)) (λ u. m (next u)) g.plan (map (seen waits) vs) (l waits) in
+      waits-same (λ u. m (state u)) (λ u. m (head u)) (λ u. m (next u)) g.plan (map (seen waits) vs) (both waits) (l waits)
+      (λ u. sum-same waits (λ (w : Waits). unclosed_at u w.done) refl refl) (λ u. sum-same waits (λ (w : Waits). waits_at u w.waiting) refl refl)
+      (λ u. sum-same waits (λ (w : Waits). chains_at u w.chains) refl refl)
+      (each-both waits (IsWaitHand (λ u. m (state u)) (λ u. m (head u)) (λ u. m (next u))) hands (hands id (seen waits v) (at_map (seen waits) vs id v at))
+      (record { done_closed = each-none _; chains = each-none _; numbers = each-none _; linked = each-none _ }))
+  split_parts sights = each-both sights (IsKnown (λ u. m (head u)) (λ u. m (task u)) (λ u. m (state u))) (l sights) (l sights id (seen sights v) (at_map (seen sights) vs id v at)) (each-none _)
 
   pub split-says : (q : Part) → Says g q s m (map (seen q) (slice_set vs id (kept_half v) ++ idle_half v ∷ []))
   split-says q = subst (Says g q s m) (sym (map-append (seen q) (slice_set vs id (kept_half v)) (idle_half v ∷ []) ∙ ap (λ (xs : List (Seen q)). xs ++ seen q (idle_half v) ∷ []) (map-set (seen q) vs id (kept_half v)))) (split_parts q)
 
 -- a pass with two parts or more may be split
 pub splits : (g : Setup) (id : ℕ) (v : View) → 2 ≤ v.parts → Splits (holds_at g) id v (kept_half v) (idle_half v)
-splits g id v room st holds at = (holds.0, (holds.1.0, split-says g (mem_of g.plan st.words) st.views holds.1.0 holds.1.1 id v (found st.views id v at) room))
+splits g id v room st holds at = (holds.0, (holds.1.0, split-says g (mem_of g.plan st.words) st.views holds.1.0 holds.1.1 id v (found st.views id v at) room), holds.2)

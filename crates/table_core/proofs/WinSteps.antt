@@ -1,20 +1,20 @@
 -- Wins, looks and the reservations ever made, after a step of the pool.
-use Rattle.std.proofs.Common.{◌≡◌, ◌≢◌, ◌∙◌, ◌⊎◌, inl, inr, ℕ, ◌+◌, ◌-◌, ◌<◌, ◌≤◌, cond, ◌==◌, List, ◌∷◌, sym, ap, subst, arith}
+use Rattle.std.proofs.Common.{◌≡◌, ◌≢◌, ◌∙◌, ◌⊎◌, inl, inr, ℕ, ◌+◌, ◌-◌, ◌<◌, ◌≤◌, min, cond, ◌==◌, List, ◌∷◌, refl, sym, ap, subst, arith}
 use Rattle.std.specs.Prelude.{slice_set}
 use Rattle.std.proofs.lemmas.Bool.{cases_eq}
 use Rattle.record_core.specs.Sums.{total, below}
 use Rattle.record_core.proofs.TotalFacts.{total-set}
 use Rattle.record_core.proofs.BelowFacts.{below-set}
 use Rattle.kt_words.specs.declared.plan.Plan.{Plan}
-use Rattle.kt_words.specs.SuperWords.{count_of, class_of, ever_of, risen}
+use Rattle.kt_words.specs.SuperWords.{count_of, class_of, ever_of, risen, most_ever}
 use Rattle.kt_words.specs.SuperWordLaws.{SuperWordSays}
-use Rattle.record_core.specs.Counting.{At}
+use Rattle.record_core.specs.Counting.{At, one_if}
 use Rattle.table_core.specs.Lists.{Each, hit}
 use Rattle.table_core.specs.Holdings.{Place, Look}
-use Rattle.table_core.specs.Wins.{Won, at_place, WinsSound, Looked, IsLook, LooksSound, EversSound}
+use Rattle.table_core.specs.Wins.{Won, at_place, at_superblock, WinsSound, Looked, IsLook, LooksSound, EversSound}
 use Rattle.table_core.specs.Views.{place}
 use Rattle.table_core.proofs.ListFacts.{set_cases}
-use Rattle.table_core.proofs.PoolFacts.{cond-plus, cond-le, hit-apart, hit-here}
+use Rattle.table_core.proofs.PoolFacts.{cond-plus, cond-le, cond-at, cond-apart, hit-apart, hit-here}
 
 module _ (g : Plan) (supers supers' : ℕ → ℕ) where
   module _ (vs : List Won) (id : ℕ) (u : Won) (at : At vs id u) (sound : WinsSound g supers vs) (i c : ℕ) (near : i < g.geometry.superblocks) (others : (j : ℕ) → j ≢ i → supers' j ≡ supers j) where
@@ -30,10 +30,11 @@ module _ (g : Plan) (supers supers' : ℕ → ℕ) where
     abbrev after_pay : List Won
     after_pay = slice_set vs id payer
 
-    -- one more win, and one more in the count
-    pub wins-reserved : (class_of (supers i) ≡ c) ⊎ (count_of (supers i) ≡ 0) → SuperWordSays (supers' i) (count_of (supers i) + 1) c (risen (ever_of (supers i)))
-        → WinsSound g supers' (slice_set vs id (record u { wins = place i c ∷ u.wins }))
-    wins-reserved which says j k near' = by (cases_eq j i)
+    -- one more win is one more in the count
+    counts-reserved : (class_of (supers i) ≡ c) ⊎ (count_of (supers i) ≡ 0) → SuperWordSays (supers' i) (count_of (supers i) + 1) c (risen (ever_of (supers i)))
+        → (j k : ℕ) → j < g.geometry.superblocks
+        → total (λ v. at_place j k v.wins) after_win ≡ cond (class_of (supers' j) == k) (count_of (supers' j)) 0 + total (λ v. at_place j k v.settles) after_win
+    counts-reserved which says j k near' = by (cases_eq j i)
       where
         wins_after : (j : ℕ) → total (λ v. at_place j k v.wins) after_win ≡ total (λ v. at_place j k v.wins) vs + hit i c j k
         wins_after j = omega (arith, total-set (λ (v : Won). at_place j k v.wins) vs id u winner at)
@@ -51,16 +52,36 @@ module _ (g : Plan) (supers supers' : ℕ → ℕ) where
             omega (arith, first, cond-le (class_of (supers i) == k) (count_of (supers i)))
 
         here : total (λ v. at_place i k v.wins) after_win ≡ cond (class_of (supers' i) == k) (count_of (supers' i)) 0 + total (λ v. at_place i k v.settles) after_win
-        here = omega (arith, wins_after i, settles_after i, sound i k near, hit-here i c k, grows which)
+        here = omega (arith, wins_after i, settles_after i, sound.counts i k near, hit-here i c k, grows which)
 
         by : (j ≡ i) ⊎ (j ≢ i) → total (λ v. at_place j k v.wins) after_win ≡ cond (class_of (supers' j) == k) (count_of (supers' j)) 0 + total (λ v. at_place j k v.settles) after_win
         by (inl e) = subst (λ (x : ℕ). total (λ v. at_place x k v.wins) after_win ≡ cond (class_of (supers' x) == k) (count_of (supers' x)) 0 + total (λ v. at_place x k v.settles) after_win) (sym e) here
-        by (inr ne) = omega (arith, wins_after j, settles_after j, sound j k near', hit-apart i c j k (λ e. ne (sym e)), ap (λ (n : ℕ). cond (class_of n == k) (count_of n) 0) (others j ne))
+        by (inr ne) = omega (arith, wins_after j, settles_after j, sound.counts j k near', hit-apart i c j k (λ e. ne (sym e)), ap (λ (n : ℕ). cond (class_of n == k) (count_of n) 0) (others j ne))
 
-    -- one settle more, and one less in the count
-    pub wins-settled : class_of (supers i) ≡ c → 1 ≤ count_of (supers i) → SuperWordSays (supers' i) (count_of (supers i) - 1) (class_of (supers i)) (ever_of (supers i))
-        → WinsSound g supers' (slice_set vs id (record u { settles = place i c ∷ u.settles }))
-    wins-settled its_class some says j k near' = by (cases_eq j i)
+    -- and one more in the reservations ever made
+    ever-reserved : ever_of (supers' i) ≡ risen (ever_of (supers i)) → (j : ℕ) → j < g.geometry.superblocks → ever_of (supers' j) ≡ min (total (λ v. at_superblock j v.wins) after_win) most_ever
+    ever-reserved rises j near' = by (cases_eq j i)
+      where
+        all : (j : ℕ) → total (λ v. at_superblock j v.wins) after_win ≡ total (λ v. at_superblock j v.wins) vs + one_if (i == j)
+        all j = omega (arith, total-set (λ (v : Won). at_superblock j v.wins) vs id u winner at)
+
+        here : ever_of (supers' i) ≡ min (total (λ v. at_superblock i v.wins) after_win) most_ever
+        here = omega (arith, rises, sound.ever i near, all i, cond-at i i 1 refl)
+
+        by : (j ≡ i) ⊎ (j ≢ i) → ever_of (supers' j) ≡ min (total (λ v. at_superblock j v.wins) after_win) most_ever
+        by (inl e) = subst (λ (x : ℕ). ever_of (supers' x) ≡ min (total (λ v. at_superblock x v.wins) after_win) most_ever) (sym e) here
+        by (inr ne) = omega (arith, all j, sound.ever j near', cond-apart i j 1 (λ e. ne (sym e)), ap ever_of (others j ne))
+
+    -- one more win
+    pub wins-reserved : (class_of (supers i) ≡ c) ⊎ (count_of (supers i) ≡ 0) → SuperWordSays (supers' i) (count_of (supers i) + 1) c (risen (ever_of (supers i)))
+        → WinsSound g supers' (slice_set vs id (record u { wins = place i c ∷ u.wins }))
+    wins-reserved which says = record { counts = counts-reserved which says; ever = ever-reserved says.ever_is }
+
+    -- one settle more is one less in the count
+    counts-settled : class_of (supers i) ≡ c → 1 ≤ count_of (supers i) → SuperWordSays (supers' i) (count_of (supers i) - 1) (class_of (supers i)) (ever_of (supers i))
+        → (j k : ℕ) → j < g.geometry.superblocks
+        → total (λ v. at_place j k v.wins) after_pay ≡ cond (class_of (supers' j) == k) (count_of (supers' j)) 0 + total (λ v. at_place j k v.settles) after_pay
+    counts-settled its_class some says j k near' = by (cases_eq j i)
       where
         wins_after : (j : ℕ) → total (λ v. at_place j k v.wins) after_pay ≡ total (λ v. at_place j k v.wins) vs
         wins_after j = omega (arith, total-set (λ (v : Won). at_place j k v.wins) vs id u payer at)
@@ -77,11 +98,26 @@ module _ (g : Plan) (supers supers' : ℕ → ℕ) where
             ∙ (λ x. cond (sym its_class x == k) (back x) 0)
 
         here : total (λ v. at_place i k v.wins) after_pay ≡ cond (class_of (supers' i) == k) (count_of (supers' i)) 0 + total (λ v. at_place i k v.settles) after_pay
-        here = omega (arith, wins_after i, settles_after i, sound i k near, hit-here i c k, falls)
+        here = omega (arith, wins_after i, settles_after i, sound.counts i k near, hit-here i c k, falls)
 
         by : (j ≡ i) ⊎ (j ≢ i) → total (λ v. at_place j k v.wins) after_pay ≡ cond (class_of (supers' j) == k) (count_of (supers' j)) 0 + total (λ v. at_place j k v.settles) after_pay
         by (inl e) = subst (λ (x : ℕ). total (λ v. at_place x k v.wins) after_pay ≡ cond (class_of (supers' x) == k) (count_of (supers' x)) 0 + total (λ v. at_place x k v.settles) after_pay) (sym e) here
-        by (inr ne) = omega (arith, wins_after j, settles_after j, sound j k near', hit-apart i c j k (λ e. ne (sym e)), ap (λ (n : ℕ). cond (class_of n == k) (count_of n) 0) (others j ne))
+        by (inr ne) = omega (arith, wins_after j, settles_after j, sound.counts j k near', hit-apart i c j k (λ e. ne (sym e)), ap (λ (n : ℕ). cond (class_of n == k) (count_of n) 0) (others j ne))
+
+    -- one settle more
+    pub wins-settled : class_of (supers i) ≡ c → 1 ≤ count_of (supers i) → SuperWordSays (supers' i) (count_of (supers i) - 1) (class_of (supers i)) (ever_of (supers i))
+        → WinsSound g supers' (slice_set vs id (record u { settles = place i c ∷ u.settles }))
+    wins-settled its_class some says = record {
+      counts = counts-settled its_class some says;
+      ever = λ j near'. same_ever j (cases_eq j i) ∙ sound.ever j near' ∙ ap (λ (n : ℕ). min n most_ever) (sym (all_wins j));
+    }
+      where
+        same_ever : (j : ℕ) → (j ≡ i) ⊎ (j ≢ i) → ever_of (supers' j) ≡ ever_of (supers j)
+        same_ever j (inl e) = subst (λ (x : ℕ). ever_of (supers' x) ≡ ever_of (supers x)) (sym e) says.ever_is
+        same_ever j (inr ne) = ap ever_of (others j ne)
+
+        all_wins : (j : ℕ) → total (λ v. at_superblock j v.wins) after_pay ≡ total (λ v. at_superblock j v.wins) vs
+        all_wins j = omega (arith, total-set (λ (v : Won). at_superblock j v.wins) vs id u payer at)
 
   -- a look stays one where wins are added, and its own pass's with them
   pub look-kept : (vs vs' : List Looked) (own own' : List Place) (l : Look) → ever_of (supers l.superblock) ≤ ever_of (supers' l.superblock)

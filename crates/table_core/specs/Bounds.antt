@@ -2,7 +2,8 @@
 use Rattle.std.specs.Prelude.{◌≡◌, ℕ, ◌+◌, ◌*◌, ◌≤◌, List}
 use Rattle.record_core.specs.Sums.{total}
 
--- how many of each a pass has; `things` are all that leaves a pass not idle, but for its references, and the turn
+-- how many of each a pass has; `things` are all that leaves a pass not idle, but for its references, with the turn and the leave to
+-- draw
 pub record Held : Type 0 where
   pub parts : ℕ
   pub references : ℕ
@@ -26,7 +27,7 @@ pub record Numbered : Type 0 where
   pub taken : ℕ
   pub calls : ℕ
 
--- all passes together took no more numbers than the limit, and have no more calls
-pub record NumbersSound (limit : ℕ) (vs : List Numbered) : Type 0 where
+-- all passes together took no more numbers than the limit, and have the calls that are accepted, so many
+pub record NumbersSound (limit accepted : ℕ) (vs : List Numbered) : Type 0 where
   pub taken : total (λ v. v.taken) vs ≤ limit
-  pub calls : total (λ v. v.calls) vs ≤ limit
+  pub calls : total (λ v. v.calls) vs ≡ accepted

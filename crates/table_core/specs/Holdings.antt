@@ -71,3 +71,9 @@ pub data Sight : Type 0 where
   SawHead : (unit head : ℕ) → Sight
   SawTask : (unit task : ℕ) → Sight
   SawDone : (unit word : ℕ) → Sight
+
+-- the record of which something was seen
+abbrev pub seen_at : Sight → ℕ
+seen_at (SawHead unit head) = unit
+seen_at (SawTask unit task) = unit
+seen_at (SawDone unit word) = unit

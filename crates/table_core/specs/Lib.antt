@@ -9,9 +9,15 @@ pub mod Bounds
 pub mod References
 pub mod Own
 pub mod Roots
+pub mod WaitLists
+pub mod Sights
 pub mod Views
 pub mod RecordViews
-pub mod Parts
+pub mod WaitViews
+pub mod Unbuilt
 pub mod Steps
+pub mod Parts
 pub mod RuleLaws
+pub mod WaitLaws
 pub mod Naming
+pub mod Opened

@@ -3,17 +3,21 @@
 use Rattle.std.specs.Prelude.{◌≡◌, ℕ, ◌+◌, ◌<◌, List, map, length, slice_get, slice_set, Some, cond, ◌==◌}
 use Rattle.record_core.specs.Sums.{total}
 use Rattle.kt_words.specs.StateWords.{IsStateWord}
-use Rattle.table_core.specs.Addresses.{Addr, Mem, super, state, refs, root, frame_in, put, units_of, words_of, mem_of}
+use Rattle.table_core.specs.Addresses.{Addr, Mem, super, state, refs, head, next, task, root, sum, frame_in, put, units_of, words_of, mem_of}
 use Rattle.record_core.specs.Counting.{one_if}
 use Rattle.table_core.specs.Lists.{Each}
 use Rattle.table_core.specs.Holdings.{Block, Made, Run, Done}
-use Rattle.table_core.specs.Story.{Story, tasks_in}
+use Rattle.table_core.specs.Story.{Story, tasks_in, TotalsSound}
 use Rattle.table_core.specs.Pool.{Hand, PoolSound, bit_in}
 use Rattle.table_core.specs.Wins.{Won, WinsSound, Looked, LooksSound, EversSound}
 use Rattle.table_core.specs.Bounds.{Held, IsBounded, Numbered, NumbersSound}
 use Rattle.table_core.specs.References.{Bag, IsReferred, FramesFit}
 use Rattle.table_core.specs.Own.{Hands, OwnSound, record_words}
 use Rattle.table_core.specs.Roots.{Turn, RootsSound}
+use Rattle.table_core.specs.Unbuilt.{UnbuiltAreZero}
+use Rattle.table_core.specs.Steps.{Stepped}
+use Rattle.table_core.specs.WaitLists.{Waits, WaitSound}
+use Rattle.table_core.specs.Sights.{Knows, SightsSound}
 use Rattle.table_core.specs.declared.setup.Setup.{Setup}
 use Rattle.table_core.specs.declared.view.View.{View}
 
@@ -40,8 +44,14 @@ pub data Part : Type 0 where
   roots : Part
   -- each state word is one
   shaped : Part
-  -- no more numbers are taken than there are
+  -- no more numbers are taken than there are, and each accepted call is some pass's
   numbers : Part
+  -- the totals count the story
+  totals : Part
+  -- a record that waits stands in one place, and lists are as their heads say
+  waits : Part
+  -- what was seen under a reference is still so
+  sights : Part
 
 -- what a part reads of a view
 abbrev pub Seen : Part → Type 0
@@ -57,6 +67,9 @@ Seen own = Hands
 Seen roots = Turn
 Seen shaped = Unit {0}
 Seen numbers = Numbered
+Seen totals = Unit {0}
+Seen waits = Waits
+Seen sights = Knows
 
 abbrev pub fresh_in : List Block → ℕ
 fresh_in = total (λ b. one_if b.fresh)
@@ -64,10 +77,10 @@ fresh_in = total (λ b. one_if b.fresh)
 abbrev pub unnumbered : List Made → ℕ
 unnumbered = total (λ r. cond (r.number == 0) 1 0)
 
--- all that leaves a pass not idle but for its references, and the turn
+-- all that leaves a pass not idle, but for its references; beside it the turn and the leave to draw
 abbrev pub things_of : View → ℕ
 things_of v = length v.reserved + length v.blocks + length v.debts + length v.made + length v.waiting + length v.runs + length v.done
-    + length v.retiring + length v.chains + length v.drawn + length v.turn + length v.unwritten + v.may_draw
+    + length v.retiring + length v.chains + length v.drawn + length v.no_task + length v.no_after + length v.stamps + length v.unwritten + length v.answers + length v.turn + v.may_draw
 
 abbrev pub seen : (q : Part) → View → Seen q
 seen pool v = record { reserved = v.reserved; blocks = v.blocks; debts = v.debts }
@@ -90,6 +103,9 @@ seen own v = record { made = v.made; runs = v.runs; done = v.done; known = v.kno
 seen roots v = record { turn = v.turn; asked = v.asked }
 seen shaped v = tt
 seen numbers v = record { taken = length v.taken; calls = length v.calls }
+seen totals v = tt
+seen waits v = record { waiting = v.waiting; chains = v.chains; done = v.done }
+seen sights v = record { futures = v.futures; sights = v.sights }
 
 module _ (g : Setup) where
   -- what a part says
@@ -105,7 +121,10 @@ module _ (g : Setup) where
   Says own s m vs = OwnSound g.plan (λ i. m (super i)) (λ u. m (state u)) (record_words m) vs
   Says roots s m vs = RootsSound g.checked g.plan (λ r. m (root r)) vs
   Says shaped s m vs = (u : ℕ) → u < units_of g.plan → IsStateWord (m (state u))
-  Says numbers s m vs = NumbersSound g.plan.limit vs
+  Says numbers s m vs = NumbersSound g.plan.limit (length s.calls) vs
+  Says totals s m vs = TotalsSound g.plan.limit s (λ k. m (sum k))
+  Says waits s m vs = WaitSound (λ u. m (state u)) (λ u. m (head u)) (λ u. m (next u)) g.plan vs
+  Says sights s m vs = SightsSound (λ u. m (head u)) (λ u. m (task u)) (λ u. m (state u)) vs
 
   -- all parts, of one story
   abbrev pub AllSay : Story → Mem → List View → Type 0
@@ -114,12 +133,12 @@ module _ (g : Setup) where
   abbrev pub Lawful : Mem → List View → Type 0
   Lawful m vs = (s : Story) × AllSay s m vs
 
-  -- the same of the words as they lie: this is the rule
+  -- the same of the words as they lie, and the words that no step writes are 0: this is the rule
   abbrev pub Holds : List ℕ → List View → Type 0
-  Holds ws vs = (length ws ≡ words_of g.plan) × Lawful (mem_of g.plan ws) vs
+  Holds ws vs = (length ws ≡ words_of g.plan) × Lawful (mem_of g.plan ws) vs × UnbuiltAreZero (mem_of g.plan ws)
 
-  -- A step that writes f of what it finds at one word may be made: whatever the table is then, some new view of the pass keeps
-  -- the rule and is what the step tells.
+  -- A step that writes f of what it finds at one word may be made: whatever the table is then, with some new view of the pass all
+  -- parts say what they said, of the same story; the pass has seen what was found, and the view is what the step tells.
   abbrev pub Keeps : ℕ → View → Addr → (ℕ → ℕ) → (ℕ → View → Type 0) → Type 0
   Keeps id v a f told = (m : Mem) (vs : List View) (s : Story) → AllSay s m vs → slice_get vs id ≡ Some v → m a < 18446744073709551616
-      → (w : View) × Lawful (put m a (f (m a))) (slice_set vs id w) × told (m a) w × (w.parts ≡ v.parts)
+      → (w : View) × AllSay s (put m a (f (m a))) (slice_set vs id w) × told (m a) w × Stepped a (m a) v w

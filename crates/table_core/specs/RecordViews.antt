@@ -5,7 +5,7 @@ use Rattle.kt_words.specs.Capacity.{block_units}
 use Rattle.record_core.specs.Counting.{times, dropped}
 use Rattle.table_core.specs.Addresses.{Addr}
 use Rattle.table_core.specs.Asking.{Asker, OfRoot, OfTask, Answer}
-use Rattle.table_core.specs.Holdings.{Block, Made, Done, RootSays, Record, Sight, SawHead, SawTask, SawDone}
+use Rattle.table_core.specs.Holdings.{Block, Made, Done, RootSays, Record, Sight, SawDone, seen_at}
 use Rattle.table_core.specs.Own.{is_word_of, is_own}
 use Rattle.table_core.specs.Views.{block, is_block}
 use Rattle.table_core.specs.declared.view.View.{View}
@@ -43,12 +43,6 @@ referred u v = record v { futures = u ∷ v.futures }
 
 abbrev pub is_at : ℕ → ℕ → Bool
 is_at u w = w == u
-
--- the record of which something was seen
-abbrev pub seen_at : Sight → ℕ
-seen_at (SawHead unit head) = unit
-seen_at (SawTask unit task) = unit
-seen_at (SawDone unit word) = unit
 
 -- what was seen of other records
 abbrev pub forget : ℕ → List Sight → List Sight

@@ -2,12 +2,12 @@
 use Rattle.std.specs.Prelude.{◌≡◌, ◌≢◌, ℕ, ◌+◌, ◌<◌, ◌≤◌, ◌⊎◌, List, []}
 use Rattle.record_core.specs.Counting.{At}
 use Rattle.kt_words.specs.Capacity.{block_units}
-use Rattle.kt_words.specs.SuperWords.{count_of}
+use Rattle.kt_words.specs.SuperWords.{count_of, class_of}
 use Rattle.kt_words.specs.StateWords.{phase_of}
 use Rattle.table_core.specs.Addresses.{super, state, mem_of, units_of}
 use Rattle.table_core.specs.Lists.{Each}
 use Rattle.table_core.specs.Holdings.{Block}
-use Rattle.table_core.specs.Pool.{bit_in}
+use Rattle.table_core.specs.Pool.{superblock_of, bit_in}
 use Rattle.table_core.specs.Parts.{Holds}
 use Rattle.table_core.specs.declared.setup.Setup.{Setup}
 use Rattle.table_core.specs.declared.view.View.{View}
@@ -18,14 +18,36 @@ pub record HasAt (vs : List View) (id k : ℕ) (x : Block) : Type 0 where
   pub at : At vs id pass
   pub there : At pass.blocks k x
 
--- two blocks share no unit
+-- the block of class c at unit u and that of class d at unit w share no unit
+abbrev pub ShareNone : (u c w d : ℕ) → Type 0
+ShareNone u c w d = (u + block_units c ≤ w) ⊎ (w + block_units d ≤ u)
+
 abbrev pub AreApart : Block → Block → Type 0
-AreApart x y = (x.unit + block_units x.class ≤ y.unit) ⊎ (y.unit + block_units y.class ≤ x.unit)
+AreApart x y = ShareNone x.unit x.class y.unit y.class
 
 -- all blocks of all passes lie apart
 abbrev pub BlocksAreApart : Type 0
 BlocksAreApart = (g : Setup) (ws : List ℕ) (vs : List View) → Holds g ws vs → (id k id' k' : ℕ) (x y : Block) → HasAt vs id k x → HasAt vs id' k' y
     → (id ≢ id') ⊎ (k ≢ k') → AreApart x y
+
+-- a record stands at the unit, which is in use
+pub record StandsAt (g : Setup) (ws : List ℕ) (u : ℕ) : Type 0 where
+  pub near : u < units_of g.plan
+  pub used : 1 ≤ phase_of (mem_of g.plan ws (state u))
+
+-- the class of its block, which is that of its superblock
+abbrev pub class_at : Setup → List ℕ → ℕ → ℕ
+class_at g ws u = class_of (mem_of g.plan ws (super (superblock_of g.plan u)))
+
+-- the blocks of records lie apart from each other
+abbrev pub RecordsAreApart : Type 0
+RecordsAreApart = (g : Setup) (ws : List ℕ) (vs : List View) → Holds g ws vs → (u w : ℕ) → StandsAt g ws u → StandsAt g ws w → u ≢ w
+    → ShareNone u (class_at g ws u) w (class_at g ws w)
+
+-- and from all blocks of all passes
+abbrev pub RecordsAndBlocksAreApart : Type 0
+RecordsAndBlocksAreApart = (g : Setup) (ws : List ℕ) (vs : List View) → Holds g ws vs → (id k u : ℕ) (x : Block) → HasAt vs id k x → StandsAt g ws u
+    → ShareNone x.unit x.class u (class_at g ws u)
 
 -- a pass has nothing of the pool
 pub record HasNothing (v : View) : Type 0 where

@@ -1,6 +1,6 @@
 -- What has happened: the accepted calls, the events of the stamps, and the ends of tasks. Each list only grows, and each is
 -- counted from 1.
-use Rattle.std.specs.Prelude.{ℕ, List, []}
+use Rattle.std.specs.Prelude.{◌≡◌, ℕ, min, List, [], length}
 use Rattle.record_core.specs.Sums.{total}
 use Rattle.task_syntax.specs.declared.value.Value.{Value}
 use Rattle.task_meaning.specs.Worths.{Accepted, OfCall, OfAll, Respawn}
@@ -38,3 +38,8 @@ is_new (Respawn t waits) = 0
 
 abbrev pub tasks_in : List Accepted → ℕ
 tasks_in = total is_new
+
+-- The totals count the story: as many calls are accepted as numbers were drawn within the limit, and as many stamps were given.
+pub record TotalsSound (limit : ℕ) (s : Story) (totals : ℕ → ℕ) : Type 0 where
+  pub drawn : length s.calls ≡ min (totals 0) limit
+  pub stamps : length s.order ≡ totals 2

@@ -1,8 +1,9 @@
 -- How often places were reserved and settled, by whom, and what that says of a word that was seen.
-use Rattle.std.specs.Prelude.{◌≡◌, ℕ, ◌+◌, ◌<◌, ◌≤◌, List, cond, ◌==◌}
+use Rattle.std.specs.Prelude.{◌≡◌, ℕ, ◌+◌, ◌<◌, ◌≤◌, min, List, cond, ◌==◌}
 use Rattle.record_core.specs.Sums.{total, below}
 use Rattle.kt_words.specs.declared.plan.Plan.{Plan}
-use Rattle.kt_words.specs.SuperWords.{count_of, class_of, ever_of}
+use Rattle.record_core.specs.Counting.{one_if}
+use Rattle.kt_words.specs.SuperWords.{count_of, class_of, ever_of, most_ever}
 use Rattle.table_core.specs.Lists.{Each, hit}
 use Rattle.table_core.specs.Holdings.{Place, Look}
 
@@ -15,10 +16,16 @@ pub record Won : Type 0 where
 abbrev pub at_place : ℕ → ℕ → List Place → ℕ
 at_place i c = total (λ r. hit r.superblock r.class i c)
 
--- all wins less all settles are the count of a superblock, under its class, and nothing under another
-abbrev pub WinsSound : Plan → (ℕ → ℕ) → List Won → Type 0
-WinsSound g supers vs = (i c : ℕ) → i < g.geometry.superblocks
-    → total (λ v. at_place i c v.wins) vs ≡ cond (class_of (supers i) == c) (count_of (supers i)) 0 + total (λ v. at_place i c v.settles) vs
+-- how many are of this superblock, of any class
+abbrev pub at_superblock : ℕ → List Place → ℕ
+at_superblock i = total (λ r. one_if (r.superblock == i))
+
+pub record WinsSound (g : Plan) (supers : ℕ → ℕ) (vs : List Won) : Type 0 where
+  -- all wins less all settles are the count of a superblock, under its class, and nothing under another
+  pub counts : (i c : ℕ) → i < g.geometry.superblocks
+      → total (λ v. at_place i c v.wins) vs ≡ cond (class_of (supers i) == c) (count_of (supers i)) 0 + total (λ v. at_place i c v.settles) vs
+  -- the reservations ever made of it are all wins there, as far as its word can count
+  pub ever : (i : ℕ) → i < g.geometry.superblocks → ever_of (supers i) ≡ min (total (λ v. at_superblock i v.wins) vs) most_ever
 
 -- what a pass reserved, and its looks
 pub record Looked : Type 0 where

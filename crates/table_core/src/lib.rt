@@ -3,13 +3,14 @@
 //!
 //! `specs/Addresses.antt` says where each word lies, `Views.antt` what a step does to a view, and
 //! `Story.antt` what has happened. The rule is a list of parts (`Parts.antt`); what they say stands
-//! in `Pool.antt`, `Wins.antt` and `Bounds.antt`.
+//! in the files that it names, and in `Unbuilt.antt` which words no step writes yet. `Steps.antt`
+//! says what every step tells.
 #![tactic(auto)]
 
 mod laws;
 mod setup;
 mod view;
 
-pub use laws::pool_is_shared;
+pub use laws::{pool_is_shared, waiters_stand_once};
 pub use setup::Setup;
 pub use view::View;

@@ -6,7 +6,7 @@ use Rattle.step_table.proofs.RecordStepping.{state-there}
 
 pub store_as-requires-clause-word : goal.store_as-requires-clause-word
 store_as-requires-clause-word c =
-    record { place = c.state_word-word.ensures; there = state-there c.args.self.now.setup.plan c.args.block.unit c.requires.hand.is_block.inside }
+    record { place = c.state_word-word.ensures; there = state-there c.args.self.now.setup.plan c.args.block.unit c.requires.hand.is_block.inside; built = refl }
 
 pub store_as-requires-clause-rule : goal.store_as-requires-clause-rule
 store_as-requires-clause-rule c =

@@ -10,7 +10,7 @@ use Rattle.step_table.specs.LastLooks.{KeepsNewest}
 use Rattle.step_table.proofs.RecordStepping.{refs-there}
 
 pub fetch_sub_as-found-requires-clause-word : goal.fetch_sub_as-found-requires-clause-word
-fetch_sub_as-found-requires-clause-word c = record { place = c.refs_word-word.ensures; there = refs-there c.args.self.now.setup.plan c.args.future.unit c.requires.hand.near }
+fetch_sub_as-found-requires-clause-word c = record { place = c.refs_word-word.ensures; there = refs-there c.args.self.now.setup.plan c.args.future.unit c.requires.hand.near; built = refl }
 
 pub fetch_sub_as-found-requires-clause-rule : goal.fetch_sub_as-found-requires-clause-rule
 fetch_sub_as-found-requires-clause-rule c =

@@ -26,6 +26,7 @@ fetch_add_as-requires-clause-word c =
       place = c.refs_word-word.ensures;
       there = refs-there g c.unit_of-unit.result
           (its_record root.asked c.args.root c.unit_of-unit.result root.unit (units_of g) (sym (c.named.ensures root.asked root.has_turn) ∙ c.unit_of-unit.ensures) root.there root.near);
+      built = refl;
     }
 
 pub fetch_add_as-requires-clause-rule : goal.fetch_add_as-requires-clause-rule

@@ -1,5 +1,5 @@
 use Rattle.step_table.proofs.shared.Shared.name.Goals as goal
-use Rattle.std.proofs.Common.{◌∙◌, length, sym, ap, subst, arith}
+use Rattle.std.proofs.Common.{◌∙◌, length, sym, ap, subst, arith, refl}
 use Rattle.table_core.specs.RecordViews.{given_to_root, turned}
 use Rattle.table_core.specs.declared.view.View.{View}
 use Rattle.step_table.specs.declared.turn.NamedRoot.{NamedRoot}
@@ -20,7 +20,7 @@ word_of-requires c = subst FitsName (sym c.named_by-named.ensures) (name-fits c.
 
 pub store_as-requires-clause-word : goal.store_as-requires-clause-word
 store_as-requires-clause-word c =
-    record { place = c.root_word-lies.ensures; there = root-there c.args.self.now.setup.plan c.args.root (omega (arith, c.requires.may.is_next, c.requires.may.inside, c.args.self.now.setup.plan.roots_fit)) }
+    record { place = c.root_word-lies.ensures; there = root-there c.args.self.now.setup.plan c.args.root (omega (arith, c.requires.may.is_next, c.requires.may.inside, c.args.self.now.setup.plan.roots_fit)); built = refl }
 
 pub store_as-requires-clause-rule : goal.store_as-requires-clause-rule
 store_as-requires-clause-rule c =

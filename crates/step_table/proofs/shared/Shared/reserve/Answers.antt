@@ -8,7 +8,7 @@ use Rattle.table_core.proofs.PoolKinds.{reserves-at}
 use Rattle.step_table.proofs.Stepping.{super-there, takes-one}
 
 pub compare_exchange_as-found-requires-clause-word : goal.compare_exchange_as-found-requires-clause-word
-compare_exchange_as-found-requires-clause-word c = record { place = c.super_word-word.ensures; there = super-there c.args.self.now.setup.plan c.args.superblock c.requires.superblock }
+compare_exchange_as-found-requires-clause-word c = record { place = c.super_word-word.ensures; there = super-there c.args.self.now.setup.plan c.args.superblock c.requires.superblock; built = refl }
 
 pub compare_exchange_as-found-requires-clause-rule : goal.compare_exchange_as-found-requires-clause-rule
 compare_exchange_as-found-requires-clause-rule c =

@@ -18,7 +18,7 @@ told_class : (u c n r : ℕ) (v w : View) → w ≡ saw (state u) n (retired u c
 told_class u c n r v w e tells = tells (block u c false) (subst (λ (x : View). Has (block u c false) x.blocks) (sym e) (0, refl)) refl
 
 pub store_as-requires-clause-word : goal.store_as-requires-clause-word
-store_as-requires-clause-word c = record { place = c.state_word-word.ensures; there = state-there c.args.self.now.setup.plan c.args.retiring.unit c.requires.hand.near }
+store_as-requires-clause-word c = record { place = c.state_word-word.ensures; there = state-there c.args.self.now.setup.plan c.args.retiring.unit c.requires.hand.near; built = refl }
 
 pub store_as-requires-clause-rule : goal.store_as-requires-clause-rule
 store_as-requires-clause-rule c =
@@ -31,7 +31,7 @@ super_word-word-requires c = superblock_in c.args.self.now.setup.plan c.args.ret
 pub load_as-found-requires-clause-word : goal.load_as-found-requires-clause-word
 load_as-found-requires-clause-word c =
     let g = c.args.self.now.setup.plan in let u = c.args.retiring.unit in
-    record { place = c.super_word-word.ensures; there = super-there g (superblock_of g u) (superblock_in g u c.requires.hand.near) }
+    record { place = c.super_word-word.ensures; there = super-there g (superblock_of g u) (superblock_in g u c.requires.hand.near); built = refl }
 
 pub load_as-found-requires-clause-rule : goal.load_as-found-requires-clause-rule
 load_as-found-requires-clause-rule c = class-glances-at c.args.self.now.setup c.store_as.new.seat.id c.store_as.new.seat.me.0 c.args.retiring.unit c.requires.hand.near

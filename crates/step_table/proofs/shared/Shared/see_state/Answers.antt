@@ -1,5 +1,5 @@
 use Rattle.step_table.proofs.shared.Shared.see_state.Goals as goal
-use Rattle.std.proofs.Common.{ℕ, ◌∙◌, sym, ap}
+use Rattle.std.proofs.Common.{ℕ, ◌∙◌, sym, ap, refl}
 use Rattle.table_core.specs.Addresses.{state}
 use Rattle.table_core.specs.Views.{saw}
 use Rattle.table_core.specs.RecordViews.{saw_state}
@@ -7,7 +7,7 @@ use Rattle.table_core.proofs.FillKinds.{sees-state-at}
 use Rattle.step_table.proofs.RecordStepping.{state-there}
 
 pub load_as-found-requires-clause-word : goal.load_as-found-requires-clause-word
-load_as-found-requires-clause-word c = record { place = c.state_word-word.ensures; there = state-there c.args.self.now.setup.plan c.args.unit c.requires.unit }
+load_as-found-requires-clause-word c = record { place = c.state_word-word.ensures; there = state-there c.args.self.now.setup.plan c.args.unit c.requires.unit; built = refl }
 
 pub load_as-found-requires-clause-rule : goal.load_as-found-requires-clause-rule
 load_as-found-requires-clause-rule c = sees-state-at c.args.self.now.setup c.args.pass.now.seat.id c.args.pass.now.seat.me.0 c.args.unit c.requires.unit

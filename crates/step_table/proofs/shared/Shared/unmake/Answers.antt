@@ -7,7 +7,7 @@ state_word-word-requires c = (c.requires.hand.1).is_block.inside
 
 pub store_as-requires-clause-word : goal.store_as-requires-clause-word
 store_as-requires-clause-word c =
-    record { place = c.state_word-word.ensures; there = state-there c.args.self.now.setup.plan c.args.made.unit (c.requires.hand.1).is_block.inside }
+    record { place = c.state_word-word.ensures; there = state-there c.args.self.now.setup.plan c.args.made.unit (c.requires.hand.1).is_block.inside; built = refl }
 
 pub store_as-requires-clause-rule : goal.store_as-requires-clause-rule
 store_as-requires-clause-rule c =
