@@ -1,0 +1,2 @@
+pub mod Relinking
+pub mod JoinFacts

@@ -1,0 +1,21 @@
+use Rattle.wait_rows.proofs.hand.take_one.Goals as goal
+use Rattle.std.proofs.Common.{List, sym, subst}
+use Rattle.step_table.specs.declared.record_tokens.Linkable.{Linkable}
+use Rattle.step_table.specs.Passes.{view}
+use Rattle.wait_rows.specs.Hands.{HasHand}
+use Rattle.wait_rows.proofs.HandFacts.{hand-unchained, hand-lost}
+
+pub returns-in_err-push-in-Some-clause-hand : goal.returns-in_err-push-in-Some-clause-hand
+returns-in_err-push-in-Some-clause-hand c =
+    let g = c.args.shared.now.setup.plan in let hand = c.args.hand.now in let chain = c.requires.chain in
+    subst (λ (l : List Linkable). HasHand g l hand.stages.items (view c.next_of.new.pass)) (sym c.in_err-push-in-Some.ensures.items)
+    (hand-lost g hand.stages.items hand.waiting.items c.in-Some.waiter (view c.next_of.new.pass)
+    (hand-unchained g hand.stages.items hand.waiting.items chain.0 c.args.chain c.args.pass.now c.next_of.new.pass (c.in-Some.waiter, c.in-Some.rest) c.requires.hand chain.1
+    (c.in-Some.ensures.some chain.0 chain.1)))
+
+pub returns-in_ok-push-in-Some-clause-hand : goal.returns-in_ok-push-in-Some-clause-hand
+returns-in_ok-push-in-Some-clause-hand c =
+    let g = c.args.shared.now.setup.plan in let hand = c.args.hand.now in let chain = c.requires.chain in
+    subst (λ (l : List Linkable). HasHand g l hand.stages.items (view c.next_of.new.pass)) (sym c.in_ok-push-in-Some.ensures.items)
+    (hand-unchained g hand.stages.items hand.waiting.items chain.0 c.args.chain c.args.pass.now c.next_of.new.pass (c.in-Some.waiter, c.in-Some.rest) c.requires.hand chain.1
+    (c.in-Some.ensures.some chain.0 chain.1))
