@@ -1,0 +1,4 @@
+mod HandFacts
+mod DropFacts
+mod FirstHands
+mod RecordFacts
