@@ -1,0 +1,13 @@
+pub mod Calls
+pub mod Rows
+pub mod Numbers
+pub mod Askers
+pub mod Frames
+pub mod Counts
+pub mod RootTasks
+pub mod Parts
+pub mod DrawViews
+pub mod RuleLaws
+pub mod DrawLaws
+pub mod LifeViews
+pub mod LifeLaws

@@ -1,0 +1,10 @@
+//! What the scheduler keeps of the shared table, as plain data: beside the table's own rule, that
+//! each accepted number stands in one place, that each task does or has ended, what rows and frames
+//! say, and that the count of living records is right. Nothing here runs.
+//!
+//! `specs/Parts.antt` lists the parts of the rule; what they say stands in the files that it names.
+#![tactic(auto)]
+
+mod laws;
+
+pub use laws::{draws_keep_rule, life_keeps_rule, rule_opens, steps_keep_rule};
