@@ -202,7 +202,7 @@ cut_by_earlier p c plan e t u sound by = let led = (sound.causes t u by).1 in cu
 pub no_cut_value : (p : Program) (e : EndSeen) (at t : ℕ) (v : ValueOf) → EndFaithful p e → future_at e.own at ≡ Some t
     → is_cut (cause_of e.tasks t) ≡ true → slice_get e.roots at ≢ Some (Value v)
 no_cut_value p e at t v faithful own cut there =
-    let uncut : IsUncut e.tasks (future_at e.own at) = (faithful.clear at (Value v) there).0 tt in
+    let uncut : IsUncut e.tasks (future_at e.own at) = (faithful.cuts.clear at (Value v) there).0 tt in
     let clear : cause_of e.tasks t ≡ cause.Clear = subst (λ (o : Option ℕ). IsUncut e.tasks o) own uncut in
     let not_cut : is_cut (cause_of e.tasks t) ≡ false = ap is_cut clear in
     absurd cc
@@ -210,9 +210,9 @@ no_cut_value p e at t v faithful own cut there =
 -- a task behind a cut one has no other cause
 pub no_cut_hidden : (p : Program) (e : EndSeen) (n u : ℕ) (row : ActivationRow) (other : Cause) → EndFaithful p e → by_number e.rows n ≡ Some row → row.after ≡ Some u
     → is_cut (cause_of e.tasks u) ≡ true → other ≢ cause.By u → cause_of e.tasks row.task ≢ other
-no_cut_hidden p e n u row other faithful at after cut differ is = differ (sym is ∙ faithful.through n u row at after cut)
+no_cut_hidden p e n u row other faithful at after cut differ is = differ (sym is ∙ faithful.cuts.through n u row at after cut)
 
 -- a root's task has no other predecessor
 pub no_other_predecessor : (p : Program) (e : EndSeen) (at t : ℕ) (root : RootLine) (row : ActivationRow) (other : Option ℕ) → EndFaithful p e
     → slice_get p.roots at ≡ Some root → future_at e.own at ≡ Some t → by_number e.rows t ≡ Some row → other ≢ root_waits e.own root.behind → row.after ≢ other
-no_other_predecessor p e at t root row other faithful line own there differ is = differ (sym is ∙ faithful.own_behind at t root row line own there)
+no_other_predecessor p e at t root row other faithful line own there differ is = differ (sym is ∙ faithful.own.behind at t root row line own there)

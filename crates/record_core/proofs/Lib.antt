@@ -14,3 +14,5 @@ pub mod JournalCode
 pub mod TurnFacts
 pub mod EndFacts
 pub mod HeldFacts
+pub mod ItemFacts
+pub mod FaithfulFacts

@@ -1,6 +1,7 @@
 -- What a sound end, and a faithful one, can not show.
-use Rattle.std.specs.Prelude.{◌≡◌, ◌≢◌, ◌⊎◌, ℕ, ◌<◌, true, Option, Some, length, slice_get}
+use Rattle.std.specs.Prelude.{◌≡◌, ◌≢◌, ◌↔◌, ◌⊎◌, ℕ, ◌<◌, true, Option, Some, List, length, slice_get}
 use Rattle.task_syntax.specs.Form.{IsWellFormed}
+use Rattle.task_syntax.specs.declared.instr.Instr.{Instr}
 use Rattle.task_syntax.specs.declared.value.Value.{Value as ValueOf}
 use Rattle.task_syntax.specs.declared.program.Root.{Root as RootLine}
 use Rattle.task_syntax.specs.declared.program.Program.{Program}
@@ -9,10 +10,15 @@ use Rattle.task_meaning.specs.Meant.{future_at}
 use Rattle.task_meaning.specs.Roots.{RootGives}
 use Rattle.task_meaning.specs.RootLaws.{root_waits}
 use Rattle.record_core.specs.Sums.{total}
-use Rattle.record_core.specs.Numbers.{by_number}
+use Rattle.task_meaning.specs.Worths.{Accepted}
+use Rattle.kt_words.specs.Capacity.{capacity}
+use Rattle.kt_words.specs.declared.super_word.SuperWord.{SuperWord}
+use Rattle.record_core.specs.Numbers.{by_number, HasTask}
 use Rattle.record_core.specs.Journal.{IsRefusal, is_cut, finish_of, cause_of}
 use Rattle.record_core.specs.EndSeen.{EndSeen, RunPlan}
-use Rattle.record_core.specs.EndSound.{EndSound, HasEvidence}
+use Rattle.record_core.specs.EndSound.{EndSound, HasEvidence, kind_class}
+use Rattle.record_core.specs.EndItems.{EndItems}
+use Rattle.record_core.specs.EndCalls.{TellRun, IsInKind, IsOf, IsOwn, class_wanted}
 use Rattle.record_core.specs.EndFaithful.{EndFaithful}
 use Rattle.record_core.specs.declared.rows.ActivationRow.{ActivationRow}
 use Rattle.record_core.specs.declared.rows.Cause.{Cause}
@@ -84,3 +90,53 @@ NoCutHidden = (p : Program) (e : EndSeen) (n u : ℕ) (row : ActivationRow) (oth
 abbrev pub NoOtherPredecessor : Type 0
 NoOtherPredecessor = (p : Program) (e : EndSeen) (at t : ℕ) (root : RootLine) (row : ActivationRow) (other : Option ℕ) → EndFaithful p e
     → slice_get p.roots at ≡ Some root → future_at e.own at ≡ Some t → by_number e.rows t ≡ Some row → other ≢ root_waits e.own root.behind → row.after ≢ other
+
+-- a task that was not cut is behind no cut task
+abbrev pub NoValueBehindACut : Type 0
+NoValueBehindACut = (p : Program) (e : EndSeen) (n u : ℕ) (row : ActivationRow) → EndFaithful p e → by_number e.rows n ≡ Some row → row.after ≡ Some u
+    → cause_of e.tasks row.task ≡ cause.Clear → cause_of e.tasks u ≡ cause.Clear
+
+-- a task draws no number after that of an activation behind a cut task
+abbrev pub NoRespawnOfTheCut : Type 0
+NoRespawnOfTheCut = (p : Program) (e : EndSeen) (n m u : ℕ) (row other : ActivationRow) → EndFaithful p e → by_number e.rows n ≡ Some row → row.after ≡ Some u
+    → is_cut (cause_of e.tasks u) ≡ true → by_number e.rows m ≡ Some other → other.task ≡ row.task → n < m → ⊥
+
+-- two roots do not have each other's tasks: the earlier root has the smaller number
+abbrev pub NoOwnExchanged : Type 0
+NoOwnExchanged = (p : Program) (e : EndSeen) (i j t u : ℕ) → EndFaithful p e → i < j → future_at e.own i ≡ Some t → future_at e.own j ≡ Some u → u < t → ⊥
+
+-- the task is of one root, and of no other
+abbrev pub IsOfOneRoot : Program → EndSeen → List Accepted → (ℕ → ℕ) → ℕ → Type 0
+IsOfOneRoot p e calls makers t = (at : ℕ) × IsOf p e calls makers at t × ((other : ℕ) → IsOf p e calls makers other t → other ≡ at)
+
+-- there are calls and makers that tell the run, and by these each task is of one root
+abbrev pub NoTaskWithoutRoot : Type 0
+NoTaskWithoutRoot = (p : Program) (e : EndSeen) → EndFaithful p e
+    → (calls : List Accepted) × (makers : ℕ → ℕ) × TellRun p e calls makers × ((t : ℕ) → HasTask e.rows t → IsOfOneRoot p e calls makers t)
+
+-- the first task is a root's own
+abbrev pub NoOtherFirst : Type 0
+NoOtherFirst = (p : Program) (e : EndSeen) → EndFaithful p e → HasTask e.rows 1 → IsOwn e.own 1
+
+-- a root, or an instruction of the program, asks for a block of this class
+abbrev pub AsksForClass : Program → ℕ → Type 0
+AsksForClass p class =
+    ((at : ℕ) × (root : RootLine) × (slice_get p.roots at ≡ Some root) × (kind_class p root.kind ≡ class))
+    ⊎ ((kind : ℕ) × (instr : Instr) × IsInKind p kind instr × (class_wanted p instr ≡ Some class))
+
+-- there is no evidence of a class that nothing asks for
+abbrev pub NoEvidenceUnasked : Type 0
+NoEvidenceUnasked = (p : Program) (e : EndSeen) (class : ℕ) → EndFaithful p e → (AsksForClass p class → ⊥) → e.evidence_class ≢ Some class
+
+-- and none where no answer was null
+abbrev pub NoEvidenceOfNothing : Type 0
+NoEvidenceOfNothing = (p : Program) (e : EndSeen) (class : ℕ) → EndFaithful p e → e.nulls ≡ 0 → e.evidence_class ≢ Some class
+
+-- no superblock of the evidence has more blocks than it has room for
+abbrev pub NoCountTooLarge : Type 0
+NoCountTooLarge = (p : Program) (e : EndSeen) (superblock : ℕ) (word : SuperWord) → EndFaithful p e → slice_get e.evidence superblock ≡ Some word
+    → capacity e.units word.class < word.count → ⊥
+
+-- an end is sound exactly where it has all items
+abbrev pub SoundByItems : Type 0
+SoundByItems = (p : Program) (c : Columns) (plan : RunPlan) (e : EndSeen) → EndSound p c plan e ↔ EndItems p c plan e

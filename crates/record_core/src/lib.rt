@@ -2,9 +2,11 @@
 //! trait through which a run that has ended is read.
 //!
 //! `specs/Journal.antt` says what is written into a journal and what every journal keeps. `specs/EndSound.antt` says which
-//! end may be trusted and which must be complete, `specs/EndFaithful.antt` that no cut is hidden in it, and
-//! `specs/EndLaws.antt` what no such end shows. `specs/Sums.antt` and `specs/Counting.antt` have sums and counts over
-//! lists. The functions on definitions do nothing, and the contract of each is a law.
+//! end may be trusted and which must be complete, and `specs/EndItems.antt` has its items one by one.
+//! `specs/EndFaithful.antt` says that no cut is hidden in it and that its tasks are those of its roots, by calls of which
+//! `specs/EndCalls.antt` speaks, and `specs/EndLaws.antt` what no such end shows. `specs/Sums.antt` and
+//! `specs/Counting.antt` have sums and counts over lists. The functions on definitions do nothing, and the contract of
+//! each is a law.
 #![tactic(auto)]
 
 mod counts;

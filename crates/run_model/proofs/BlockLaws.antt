@@ -48,6 +48,7 @@ first_with p plan geometry = record { run = run_first p plan; blocks = blocks_fi
 root_with : (p : Program) (plan : RunPlan) → IsGeometry plan.superblocks plan.units → (r s : Run) (root : RootLine) → IsNextRoot p r root → WithBlocks p plan r → RootMove p plan.units r root s → WithBlocks p plan s
 root_with p plan geometry r s root next now move = record { run = run_root p plan.limit plan.units r s root next now.run move; blocks = blocks_root p plan geometry r s root next now.run.numbers now.blocks move }
 
+-- at each step of each run, blocks in use stand apart in a sound pool
 pub blocks_always : (p : Program) (c : Columns) (plan : RunPlan) → IsGeometry plan.superblocks plan.units → (taken : ℕ) → WithBlocks p plan (state_at p c plan taken)
 blocks_always p c plan geometry taken = always p c plan (WithBlocks p plan) (record {
   first = first_with p plan geometry;
@@ -55,6 +56,7 @@ blocks_always p c plan geometry taken = always p c plan (WithBlocks p plan) (rec
   move = λ r s now move. record { run = run_move p c plan.limit plan.units r s now.run move; blocks = blocks_move p plan geometry c r s now.run.numbers now.blocks move };
 }) taken
 
+-- the pool of a run is sound at each step
 pub pools_sound : PoolsAreSound
 pools_sound p c plan taken geometry = held_sound p plan geometry (state_at p c plan taken) (blocks_always p c plan geometry taken).blocks
 
@@ -143,6 +145,7 @@ module _ (p : Program) (c : Columns) (plan : RunPlan) (geometry : IsGeometry pla
       (λ v named. uses_named r.roots r.bodies t v (OfKind q) runs.has (asks_named p c q request to v retry asks (inl named))) used e none
       (ap (λ xs. found xs n) (sym (arrives_same (with_body (accepts plan.units r request block) t (OfKind (set_future q to (Some (next_number r.journal))))) (next_number r.journal) request.after)) ∙ f) has_one has_other
 
+-- blocks in use stand apart at each step
 pub blocks_apart : BlocksAreApart
 blocks_apart = record {
   held = λ p c plan taken u w unit one other geometry ref_u ref_w e f has_one has_other.

@@ -13,6 +13,7 @@ use Rattle.record_core.specs.Numbers.{by_number, found, HasTask}
 use Rattle.record_core.specs.Journal.{task_count}
 use Rattle.record_core.specs.EndSeen.{RunPlan}
 use Rattle.record_core.specs.EndSound.{kind_class, members_class, evidence_count}
+use Rattle.record_core.specs.EndFaithful.{HeldBlocks}
 use Rattle.run_model.specs.State.{Evidence, Run}
 use Rattle.run_model.specs.Placing.{pool_of, is_in_use}
 
@@ -37,13 +38,15 @@ pub record BlocksStand (p : Program) (plan : RunPlan) (r : Run) : Type 0 where
   pub classes : (t class : ℕ) (call : Accepted) (block : BlockState) → by_number r.calls t ≡ Some call → found r.blocks t ≡ Some block
       → class_of_call p call ≡ Some class → block.class ≡ class
 
--- what the first null answer saw: no superblock had room, and their counts were together at most the tasks
+-- what the first null answer saw: no superblock had room, each had at most as many blocks as fit, and together at most as many as
+-- there are tasks
 pub record EvidenceHolds (plan : RunPlan) (r : Run) (e : Evidence) : Type 0 where
   pub class_fits : e.class ≤ 3
   pub every : length e.words ≡ plan.superblocks
   pub classes : Each e.words (λ (word : SuperWord). word.class ≤ 3)
   pub full : Each e.words (λ (word : SuperWord). IsWithoutRoom plan.units e.class word.class word.count)
   pub counted : total evidence_count e.words ≤ task_count r.journal.rows
+  pub held : Each e.words (HeldBlocks plan.units)
 
 abbrev pub EvidenceStands : RunPlan → Run → Type 0
 EvidenceStands plan r = (e : Evidence) → r.evidence ≡ Some e → EvidenceHolds plan r e

@@ -55,6 +55,7 @@ class_fits words = by (nat_le words 8) (nat_le words 16) (nat_le words 32)
     by false false true = omega arith
     by false false false = omega arith
 
+-- a request has a class that there is, and it is the class of its call
 pub request_fits : (p : Program) (c : Columns) (q : FrameOf ℕ) (request : Request) (to : ℕ) (retry : Bool) → Asks p c q request to retry → (request.class ≤ 3) × (class_of_call p request.call ≡ Some request.class)
 request_fits p c q _ _ _ (Asks.calls line to call waits there e) = (class_fits (1 + variables_of p call.kind), refl)
 request_fits p c q _ _ _ (Asks.gathers line to members there e) = (class_fits (1 + length (tasks_named q members)), refl)
@@ -77,11 +78,13 @@ module _ (p : Program) (plan : RunPlan) (geometry : IsGeometry plan.superblocks 
       sound_of plan.units r.supers (used_from r.roots r.bodies 1 r.blocks) (unit_count plan.units geometry.units_fit) (core_fit plan.units r.roots r.bodies r.blocks r.supers now.core)
       (omega (arith, now.supers, geometry.superblocks_fit)) (omega (arith, now.supers, geometry.superblocks_fit))
 
+  -- a block that the pool gives stands apart from all that are in use
   pub held_newly : (r : Run) (class : ℕ) (block : BlockState) → class ≤ 3 → BlocksHeld p plan r → placed (pool_of plan.units r) class ≡ Some block → Newly plan.units r.supers (used_from r.roots r.bodies 1 r.blocks) class block
   held_newly r class block fits now e =
       let (new, gives) = MatchOption-at_some (HasNoRoom (pool_of plan.units r) class) (λ (b : BlockState). (new : PoolState) × Gives (pool_of plan.units r) class b new) block e (placed_gives (pool_of plan.units r) class fits (held_sound r now)) in
       newly plan.units r.supers (used_from r.roots r.bodies 1 r.blocks) class block new (unit_count plan.units geometry.units_fit) fits (core_fit plan.units r.roots r.bodies r.blocks r.supers now.core) gives
 
+  -- where the pool gives none, it has no room for the class
   pub held_full : (r : Run) (class : ℕ) → class ≤ 3 → BlocksHeld p plan r → placed (pool_of plan.units r) class ≡ None → HasNoRoom (pool_of plan.units r) class
   held_full r class fits now e = MatchOption-at_none (HasNoRoom (pool_of plan.units r) class) (λ (b : BlockState). (new : PoolState) × Gives (pool_of plan.units r) class b new) e (placed_gives (pool_of plan.units r) class fits (held_sound r now))
 
@@ -161,6 +164,7 @@ module _ (p : Program) (plan : RunPlan) (geometry : IsGeometry plan.superblocks 
       by None = record { supers = now.supers; core = now.core; owned = now.owned }
       by (Some outcome) = record { supers = now.supers; core = now.core; owned = now.owned }
 
+  -- before the first root no block is in use
   pub blocks_first : BlocksHeld p plan (at_first plan)
   blocks_first = record {
     supers = length_replicate plan.superblocks;
@@ -190,6 +194,7 @@ module _ (p : Program) (plan : RunPlan) (geometry : IsGeometry plan.superblocks 
   nameless : (r : Run) (word : RootWord) → ((u : ℕ) → word ≢ Named u) → BlocksHeld p plan r → Core plan.units (r.roots ++ word ∷ []) r.bodies r.blocks r.supers
   nameless r word differ now = core_fewer plan.units (unit_count plan.units geometry.units_fit) r.roots r.bodies r.blocks r.supers now.core (r.roots ++ word ∷ []) r.bodies (λ u used. uses_root r.roots r.bodies word u (differ u) used)
 
+  -- a root's move keeps the blocks in use apart
   pub blocks_root : (r s : Run) (root : RootLine) → IsNextRoot p r root → NumbersStand r → BlocksHeld p plan r → RootMove p plan.units r root s → BlocksHeld p plan s
   blocks_root r _ root next held now (RootMove.named block free e some) =
       let new = held_newly p plan geometry r request.class block (class_fits (1 + variables_of p root.kind)) now e in
@@ -278,6 +283,7 @@ module _ (p : Program) (plan : RunPlan) (geometry : IsGeometry plan.superblocks 
           };
         }
 
+    -- each move keeps the blocks in use apart
     pub blocks_move : (r s : Run) → NumbersStand r → BlocksHeld p plan r → Move p c plan.units r s → BlocksHeld p plan s
     blocks_move r _ held now (Move.goes_on t n q next runs goes) = record {
       supers = now.supers;

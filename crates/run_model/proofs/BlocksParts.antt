@@ -260,6 +260,7 @@ module _ (units : ℕ) (unit_count : IsUnitCount units) (roots : List RootWord) 
         suc_same : suc place ≡ suc new.place → place ≡ new.place
         suc_same e = omega (arith, e)
 
+    -- a block more leaves the number of superblocks
     pub supers_length : length (supers_with units supers block) ≡ length supers
     supers_length = ap length supers_then ∙ length_put supers (suc new.place) (record { class = class; ever = risen new.super.ever })
 

@@ -3,14 +3,9 @@ use Rattle.std.specs.Prelude.{◌≡◌, ℕ, ◌<◌, ◌⊎◌, Some, List, sl
 use Rattle.task_meaning.specs.Meant.{future_at}
 use Rattle.task_meaning.specs.Worths.{Accepted, OfCall, OfAll, Respawn}
 use Rattle.record_core.specs.Numbers.{by_number, HasTask}
+use Rattle.record_core.specs.EndCalls.{IsRowOf}
 use Rattle.record_core.specs.declared.rows.ActivationRow.{ActivationRow}
 use Rattle.run_model.specs.State.{Run}
-
--- a new task is behind what its call waits for, an aggregate behind its first member
-abbrev pub IsRowOf : ℕ → Accepted → ActivationRow → Type 0
-IsRowOf n (OfCall call waits) row = (row.task ≡ n) × (row.after ≡ waits)
-IsRowOf n (OfAll members) row = (row.task ≡ n) × (row.after ≡ slice_get members 0)
-IsRowOf n (Respawn t waits) row = (row.task ≡ t) × (row.after ≡ waits) × (t < n)
 
 abbrev pub CallNames : Accepted → ℕ → Type 0
 CallNames (OfCall call waits) u = ((x : ℕ) × (future_at call.futures x ≡ Some u)) ⊎ (waits ≡ Some u)

@@ -11,6 +11,7 @@ use Rattle.task_meaning.specs.Worths.{Accepted, OfCall, OfAll, Respawn}
 use Rattle.record_core.specs.Numbers.{by_number, found, HasTask}
 use Rattle.record_core.specs.Journal.{next_number, started_rows}
 use Rattle.record_core.specs.EndSeen.{RunPlan}
+use Rattle.record_core.specs.EndCalls.{IsRowOf}
 use Rattle.record_core.specs.declared.rows.ActivationRow.{ActivationRow}
 use Rattle.run_model.specs.State.{Outcome, Named, Run, Queues, next_queued}
 use Rattle.run_model.specs.Step.{Request, arrives, waits_or_queues, accepts, draws, with_body, with_root, root_request, at_first}
@@ -21,7 +22,7 @@ use Rattle.run_model.proofs.NamesFacts.{asks_call_named, renews_named, root_call
 use Rattle.run_model.proofs.LiveFacts.{task_snoc, task_within, one_started, was_row, task_then}
 use Rattle.run_model.proofs.NumbersParts.{next_row}
 use Rattle.run_model.proofs.RunsFacts.{running_within}
-use Rattle.run_model.proofs.CallsInvariant.{IsRowOf, CallNames, Calls, CallsStand}
+use Rattle.run_model.proofs.CallsInvariant.{CallNames, Calls, CallsStand}
 use Rattle.run_model.proofs.Reached.{IsNextRoot}
 
 -- a number is drawn with its call
@@ -58,6 +59,7 @@ calls_start r n left held next now =
     same_row_of k (OfAll members) was other task after is_row = (task ∙ is_row.0, after ∙ is_row.1)
     same_row_of k (Respawn t waits) was other task after is_row = (task ∙ is_row.0, after ∙ is_row.1, is_row.2)
 
+-- before the first root there is no call
 pub calls_first : (plan : RunPlan) → CallsStand (at_first plan)
 calls_first plan = record { row_of = λ n call row e. absurd (none-some call (sym (none_of_empty n) ∙ e)); earlier = λ n u call e. absurd (none-some call (sym (none_of_empty n) ∙ e)) }
 
@@ -71,6 +73,7 @@ arrives_calls r n (Some u) now = by (found r.outcomes u)
     by (Some outcome) = record { row_of = now.row_of; earlier = now.earlier }
 
 module _ (p : Program) (units : ℕ) where
+  -- a root's move keeps rows as calls say, and calls of earlier tasks
   pub calls_root : (r s : Run) (root : RootLine) → IsNextRoot p r root → NumbersStand r → CallsStand r → RootMove p units r root s → CallsStand s
   calls_root r _ root next held now (RootMove.named block free placed some) =
       arrives_calls (with_root (accepts units r request block) (Named (next_number r.journal))) (next_number r.journal) request.after
@@ -93,6 +96,7 @@ asked_row p c q _ _ n _ (Asks.calls line to call waits there e) = (refl, refl)
 asked_row p c q _ _ n _ (Asks.gathers line to members there e) = (refl, refl)
 
 module _ (p : Program) (c : Columns) (units : ℕ) where
+  -- each move keeps rows as calls say, and calls of earlier tasks
   pub calls_move : (r s : Run) → NumbersStand r → CallsStand r → Move p c units r s → CallsStand s
   calls_move r _ held now (Move.goes_on t n q next runs goes) = record { row_of = now.row_of; earlier = now.earlier }
   calls_move r _ held now (Move.spawned t n to q request retry block runs asks placed some) =

@@ -397,6 +397,7 @@ arrives_causes r n (Some u) now = by (found r.outcomes u)
     by None = record { leads = now.leads; by = now.by; through = now.through; limited = now.limited; limited_root = now.limited_root }
     by (Some outcome) = record { leads = now.leads; by = now.by; through = now.through; limited = now.limited; limited_root = now.limited_root }
 
+-- before the first root nothing is cut
 pub causes_first : (plan : RunPlan) → CausesStand (at_first plan)
 causes_first plan = record {
   leads = λ t tag e. absurd (none-some (WasCut tag) (sym (ap flat (none_of_empty t)) ∙ e));
@@ -416,6 +417,7 @@ rooted r word now at_limit = record {
   limited_root = λ at e. ⊎_elim (λ old. now.limited_root at old) (λ new. at_limit new.1) (slice_snoc r.roots word (Refused Limit) at e);
 }
 
+-- a root's move keeps where cuts come from
 pub causes_root : (p : Program) (units : ℕ) (r s : Run) (root : RootLine) → IsNextRoot p r root → NumbersStand r → IsJournal r.journal → CausesStand r → RootMove p units r root s → CausesStand s
 causes_root p units r _ root next held journal now (RootMove.named block free placed some) =
     let request = root_request p r root in
@@ -443,6 +445,7 @@ causes_root p units r _ root next held journal now (RootMove.skipped first e) =
     differ at tag e = cc
 
 module _ (p : Program) (c : Columns) (units : ℕ) where
+  -- each move keeps where cuts come from
   pub causes_move : (r s : Run) → NumbersStand r → OutcomesStand r → IsJournal r.journal → CausesStand r → Move p c units r s → CausesStand s
   causes_move r _ held agree journal now (Move.goes_on t n q next runs goes) = record { leads = now.leads; by = now.by; through = now.through; limited = now.limited; limited_root = now.limited_root }
   causes_move r _ held agree journal now (Move.spawned t n to q request retry block runs asks placed some) =

@@ -22,6 +22,7 @@ pub record IsLineOf (p : Program) (kind state at : ℕ) (line : Line) : Type 0 w
   pub is_state : slice_get of_kind.states state ≡ Some of_state
   pub is_line : slice_get of_state.code at ≡ Some line
 
+-- the line at a position of a state's code is one of a kind and a state of the program
 pub line_of_code : (p : Program) (kind state at : ℕ) (line : Line) → slice_get (code_at p kind state) at ≡ Some line → IsLineOf p kind state at line
 line_of_code p kind state at line e = by_kind (slice_get p.kinds kind) refl e
   where
@@ -34,7 +35,7 @@ line_of_code p kind state at line e = by_kind (slice_get p.kinds kind) refl e
     by_kind (Some k) f h = by_state k f (slice_get k.states state) refl h
 
 -- a program without `retry` asks for nothing again
-no_retry : (instr : Instr) → IsNoRetry instr → asks_again instr ≡ true → ⊥
+pub no_retry : (instr : Instr) → IsNoRetry instr → asks_again instr ≡ true → ⊥
 no_retry (Spawn to kind arguments waits priority retry) none e = false≢true (sym none ∙ e)
 no_retry (All to members priority retry) none e = false≢true (sym none ∙ e)
 no_retry _ none e = false≢true e
@@ -43,6 +44,7 @@ line_no_retry : (p : Program) (kind state at : ℕ) (line : Line) → HasNoRetry
 line_no_retry p kind state at line none there e =
     let l = line_of_code p kind state at line there in no_retry line.instr (none kind l.of_kind l.is_kind state l.of_state l.is_state at line l.is_line) e
 
+-- a program without `retry` asks for none
 pub asks_no_retry : (p : Program) (c : Columns) (q : FrameOf ℕ) (request : Request) (to : ℕ) (retry : Bool) → HasNoRetry p → Asks p c q request to retry → retry ≡ true → ⊥
 asks_no_retry p c q _ _ _ none (Asks.calls line to call waits there e) again = line_no_retry p q.kind q.state q.at line none there again
 asks_no_retry p c q _ _ _ none (Asks.gathers line to members there e) again = line_no_retry p q.kind q.state q.at line none there again

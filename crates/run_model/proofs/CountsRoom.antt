@@ -31,7 +31,8 @@ use Rattle.run_model.specs.Placing.{stands_in, count_in, used_from, pool_of, pla
 use Rattle.run_model.specs.Move.{with_notes, Move, RootMove}
 use Rattle.run_model.proofs.ByNumber.{member_at, snoc_cases, none_of_empty}
 use Rattle.run_model.proofs.NumbersInvariant.{NumbersStand}
-use Rattle.run_model.proofs.CallsInvariant.{IsRowOf, CallsStand}
+use Rattle.run_model.proofs.CallsInvariant.{CallsStand}
+use Rattle.record_core.specs.EndCalls.{IsRowOf}
 use Rattle.run_model.proofs.LiveFacts.{task_within}
 use Rattle.run_model.proofs.FramesInvariant.{FramesStand}
 use Rattle.run_model.proofs.TasksStand.{tasks_of}

@@ -16,7 +16,7 @@ use Rattle.record_core.specs.Numbers.{by_number, found, HasTask}
 use Rattle.record_core.specs.Journal.{AreStampedOnce, CausesLead, Leads, task_count, finish_of, cause_of, is_cut}
 use Rattle.record_core.specs.EndSeen.{RunPlan}
 use Rattle.record_core.specs.EndSound.{HasNoRetry, IsOwnEnd, AreOwn, IsCutAsNamed, IsValueEnd, null_root, null_ends}
-use Rattle.record_core.specs.EndFaithful.{IsUncut, EndFaithful}
+use Rattle.record_core.specs.EndFaithful.{IsUncut, HidesNoCut, AreAsAsked}
 use Rattle.record_core.specs.RootEnds.{roots_named, cut_without_task, first_without_task, cut_from_root}
 use Rattle.record_core.specs.declared.rows.ActivationRow.{ActivationRow}
 use Rattle.record_core.specs.declared.rows.Cause.TheVariants as cause
@@ -33,6 +33,7 @@ use Rattle.run_model.proofs.StandsStill.{IsQuiet}
 use Rattle.run_model.proofs.NamesFacts.{own_named}
 use Rattle.run_model.proofs.NullsInvariant.{null_word}
 use Rattle.run_model.proofs.RootsInvariant.{skipped_from, RootsStand}
+use Rattle.run_model.proofs.MadeInvariant.{OrderStands}
 use Rattle.run_model.proofs.RunStands.{RunStands}
 use Rattle.run_model.proofs.AllFinish.{all_start, all_finish}
 
@@ -42,7 +43,7 @@ mapped f [] at y e = absurd (none-some y e)
 mapped f (x ∷ xs) zero y e = (x, refl, same_Some (f x) y e)
 mapped f (x ∷ xs) (suc at) y e = mapped f xs at y e
 
-mapped_to : {A B : Type 0} (f : A → B) (xs : List A) (at : ℕ) (x : A) → slice_get xs at ≡ Some x → slice_get (map f xs) at ≡ Some (f x)
+pub mapped_to : {A B : Type 0} (f : A → B) (xs : List A) (at : ℕ) (x : A) → slice_get xs at ≡ Some x → slice_get (map f xs) at ≡ Some (f x)
 mapped_to f [] at x e = absurd (none-some x e)
 mapped_to f (y ∷ xs) zero x e = ap (λ z. Some (f z)) (same_Some y x e)
 mapped_to f (y ∷ xs) (suc at) x e = mapped_to f xs at x e
@@ -51,7 +52,7 @@ pub map_length : {A B : Type 0} (f : A → B) (xs : List A) → length (map f xs
 map_length f [] = refl
 map_length f (x ∷ xs) = ap suc (map_length f xs)
 
-own_at : (words : List RootWord) (at : ℕ) (word : RootWord) → slice_get words at ≡ Some word → future_at (map own_task words) at ≡ own_task word
+pub own_at : (words : List RootWord) (at : ℕ) (word : RootWord) → slice_get words at ≡ Some word → future_at (map own_task words) at ≡ own_task word
 own_at [] at word e = absurd (none-some word e)
 own_at (w ∷ words) zero word e = ap own_task (same_Some w word e)
 own_at (w ∷ words) (suc at) word e = own_at words at word e
@@ -204,8 +205,13 @@ module _ (plan : RunPlan) (r : Run) where
     pub ends_through : (n u : ℕ) (row : ActivationRow) → by_number r.journal.rows n ≡ Some row → row.after ≡ Some u → is_cut (cause_of r.journal.tasks u) ≡ true → cause_of r.journal.tasks row.task ≡ cause.By u
     ends_through n u row there after cut = now.causes.through n u row there (all_start r now.numbers now.rank quiet n row there) after cut
 
-    pub ends_faithful : RootsStand p r → EndFaithful p (end_seen plan r)
-    ends_faithful roots = record { clear = ends_clear; through = ends_through; own_behind = own_behind }
+    -- no cut is hidden
+    pub ends_hide : OrderStands r → HidesNoCut (end_seen plan r)
+    ends_hide order = record { clear = ends_clear; through = ends_through; last = λ n u row there after cut. order.last n u row there (all_start r now.numbers now.rank quiet n row there) after cut }
+
+    -- roots have the tasks that they were asked for, in their order
+    pub ends_asked : RootsStand p r → OrderStands r → AreAsAsked p (end_seen plan r)
+    ends_asked roots order = record { behind = own_behind; rise = λ i j t u lt e f. order.rise i j t u lt (own_named r.roots i t e) (own_named r.roots j u f) }
       where
         own_behind : (at t : ℕ) (root : RootLine) (row : ActivationRow) → slice_get p.roots at ≡ Some root → future_at (own_tasks r) at ≡ Some t → by_number r.journal.rows t ≡ Some row → row.after ≡ root_waits (own_tasks r) root.behind
         own_behind at t root row there has is_row =

@@ -6,15 +6,17 @@ use Rattle.task_syntax.specs.declared.columns.Columns.{Columns}
 use Rattle.record_core.specs.EndSeen.{RunPlan}
 use Rattle.run_model.specs.State.{Run}
 use Rattle.run_model.specs.End.{OneThreadRun, root_end, state_at}
-use Rattle.run_model.specs.Laws.{StartsOnce, EndsAreInOrder, EndsAreFaithful, EndsSkipAsNamed}
+use Rattle.run_model.specs.Laws.{StartsOnce, EndsAreInOrder, EndsHideNoCut, EndsAreAsAsked, EndsSkipAsNamed}
 use Rattle.run_model.proofs.StandsStill.{IsQuiet}
 use Rattle.run_model.proofs.Reached.{asked_all, always, always_from}
 use Rattle.run_model.proofs.RootCount.{move_same_roots}
 use Rattle.run_model.proofs.RootsInvariant.{RootsStand}
 use Rattle.run_model.proofs.RootsKept.{roots_first, roots_root, roots_move}
 use Rattle.run_model.proofs.JournalGrows.{steps_grow}
+use Rattle.run_model.proofs.MadeInvariant.{OrderStands}
+use Rattle.run_model.proofs.OrderKept.{order_first, order_root, order_move}
 use Rattle.run_model.proofs.RunStands.{RunStands, run_first, run_root, run_move, run_kept, run_stands}
-use Rattle.run_model.proofs.EndFields.{map_length, ends_own, ends_null, ends_null_once, ends_limited, ends_limited_root, ends_causes, ends_started, ends_finished, ends_stamped, ends_cut, ends_named, ends_faithful}
+use Rattle.run_model.proofs.EndFields.{map_length, ends_own, ends_null, ends_null_once, ends_limited, ends_limited_root, ends_causes, ends_started, ends_finished, ends_stamped, ends_cut, ends_named, ends_hide, ends_asked}
 
 module _ (p : Program) (c : Columns) (plan : RunPlan) where
   -- the end is a state of the run, and quiet
@@ -44,6 +46,21 @@ module _ (p : Program) (c : Columns) (plan : RunPlan) where
 
   pub end_roots : IsWellFormed p → (end : Run) → OneThreadRun p c plan end → RootsStand p end
   end_roots formed end run = subst (RootsStand p) run.reached (roots_stand formed run.taken).roots
+
+  -- together with the order of roots' tasks and of cut activations
+  pub record WithOrder (r : Run) : Type 0 where
+    pub run : RunStands p plan.limit r
+    pub order : OrderStands r
+
+  order_stands : (taken : ℕ) → WithOrder (state_at p c plan taken)
+  order_stands taken = always p c plan WithOrder (record {
+    first = record { run = run_first p plan; order = order_first plan };
+    root = λ r s root next now move. record { run = run_root p plan.limit plan.units r s root next now.run move; order = order_root p plan.limit plan.units r s root next now.run now.order move };
+    move = λ r s now move. record { run = run_move p c plan.limit plan.units r s now.run move; order = order_move p c plan.limit plan.units r s now.run now.order move };
+  }) taken
+
+  pub end_order : (end : Run) → OneThreadRun p c plan end → OrderStands end
+  end_order end run = subst OrderStands run.reached (order_stands run.taken).order
 
 pub starts_once : StartsOnce
 starts_once = record {
@@ -76,8 +93,11 @@ ends_in_order p c plan end run =
       limited_root = ends_limited_root plan end p plan.limit now;
     }
 
-pub ends_faithful_all : EndsAreFaithful
-ends_faithful_all p c plan end formed run = ends_faithful plan end p plan.limit (end_stands p c plan end run) (end_quiet p c plan end run) (end_roots p c plan formed end run)
+pub ends_hide_no_cut : EndsHideNoCut
+ends_hide_no_cut p c plan end run = ends_hide plan end p plan.limit (end_stands p c plan end run) (end_quiet p c plan end run) (end_order p c plan end run)
+
+pub ends_are_as_asked : EndsAreAsAsked
+ends_are_as_asked p c plan end formed run = ends_asked plan end p plan.limit (end_stands p c plan end run) (end_quiet p c plan end run) (end_roots p c plan formed end run) (end_order p c plan end run)
 
 pub ends_skip : EndsSkipAsNamed
 ends_skip p c plan end formed run = ends_named plan end p (end_roots p c plan formed end run)

@@ -20,6 +20,7 @@ use Rattle.record_core.specs.Numbers.{by_number, found}
 use Rattle.record_core.specs.Journal.{task_count}
 use Rattle.record_core.specs.EndSeen.{RunPlan}
 use Rattle.record_core.specs.EndSound.{kind_class, own_of_class, evidence_count, HasEvidence, IsRootSound, EndSound}
+use Rattle.record_core.specs.EndFaithful.{HeldBlocks}
 use Rattle.record_core.specs.declared.rows.RootEnd.{RootEnd}
 use Rattle.record_core.specs.declared.rows.RootEnd.TheVariants.{Value, Cut}
 use Rattle.record_core.specs.declared.rows.CutFrom.TheVariants.{Host, Root, Task}
@@ -106,6 +107,14 @@ module _ (p : Program) (c : Columns) (plan : RunPlan) (geometry : IsGeometry pla
               counted = λ below. subst (λ o. total evidence_count (words_kept o) ≤ task_count end.journal.rows) (sym e) holds.counted;
             },
           )
+
+  -- each superblock that it shows has room for its blocks
+  pub counts_left : Each (words_kept end.evidence) (HeldBlocks plan.units)
+  counts_left = by end.evidence refl
+    where
+      by : (o : Option Evidence) → end.evidence ≡ o → Each (words_kept o) (HeldBlocks plan.units)
+      by None e = λ at word there. absurd (none-some word there)
+      by (Some kept) e = (stands.evidence kept e).held
 
   -- the values of roots are all that is left to show
   pub sound_with : ((at : ℕ) (v : ValueOf) → slice_get (end_seen plan end).roots at ≡ Some (Value v) → RootGives p c at v) → EndSound p c plan (end_seen plan end)

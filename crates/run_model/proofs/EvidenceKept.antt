@@ -21,6 +21,7 @@ use Rattle.record_core.specs.Numbers.{by_number, found, HasTask}
 use Rattle.record_core.specs.Journal.{next_number, started_rows, tasks_from, task_count}
 use Rattle.record_core.specs.EndSeen.{RunPlan}
 use Rattle.record_core.specs.EndSound.{kind_class, evidence_count}
+use Rattle.record_core.specs.EndFaithful.{HeldBlocks}
 use Rattle.record_core.specs.declared.rows.ActivationRow.{ActivationRow}
 use Rattle.record_core.specs.declared.rows.CutTag.{CutTag}
 use Rattle.run_model.specs.State.{Body, Outcome, RootWord, Named, Super, Evidence, Run}
@@ -122,6 +123,9 @@ module _ (p : Program) (plan : RunPlan) (geometry : IsGeometry plan.superblocks 
         subst (λ (w : SuperWord). IsWithoutRoom plan.units class w.class w.count) is_word (held_full p plan geometry r class fits now e at s has);
     counted = let few = counts_within plan.units (used_from r.roots r.bodies 1 r.blocks) r.supers in
         let tasks = used_within r.roots r.bodies 1 r.blocks r.journal.rows of_task in omega (arith, few, tasks);
+    held = λ at word there. let (s, has, is_word) = word_at (pool_of plan.units r).superblocks at word there in
+        let kept = (held_sound p plan geometry r now).kept at s has in
+        subst (HeldBlocks plan.units) is_word (record { fits = kept.within; given = kept.ever_counts });
   }
     where
       of_task : (k : ℕ) (b : BlockState) → slice_get r.blocks k ≡ Some (Some b) → (row : ActivationRow) × (slice_get r.journal.rows k ≡ Some row) × (row.task ≡ 1 + k)
@@ -138,7 +142,7 @@ module _ (p : Program) (plan : RunPlan) (geometry : IsGeometry plan.superblocks 
 
   -- more rows, the same evidence
   held_on : (r s : Run) (e : Evidence) → task_count r.journal.rows ≤ task_count s.journal.rows → EvidenceHolds plan r e → EvidenceHolds plan s e
-  held_on r s e more was = record { class_fits = was.class_fits; every = was.every; classes = was.classes; full = was.full; counted = omega (arith, was.counted, more) }
+  held_on r s e more was = record { class_fits = was.class_fits; every = was.every; classes = was.classes; full = was.full; counted = omega (arith, was.counted, more); held = was.held }
 
   module _ (c : Columns) where
     noted_renewed : (r : Run) (n : ℕ) (body to : Body) (after : Option ℕ) (priority : Priority) (notes : Notes) → Renews p c plan.units r n body to after priority notes → BlocksHeld p plan r → EvidenceStands plan r

@@ -263,6 +263,7 @@ record HeldFrames (p : Program) (r : Run) : Type 0 where
   held : NumbersStand r
   frames : FramesStand p r
 
+-- at each step of a run of a valid program frames stand where a way leads
 pub frames_always : (p : Program) → IsWellFormed p → IsValid p → (c : Columns) (plan : RunPlan) (taken : ℕ) → FramesStand p (steps p c plan.units taken (asked p plan))
 frames_always p formed valid c plan taken = (always p c plan (HeldFrames p) kept taken).frames
   where

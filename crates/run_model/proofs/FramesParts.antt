@@ -279,6 +279,7 @@ module _ (p : Program) (r : Run) (n : ℕ) (left : Queues) (held : NumbersStand 
     }
     starts_body t (OfMembers members at) was = record { of_call = was.of_call; at = was.at; within = was.within; given = was.given }
 
+    -- tasks under way stand as they did when one of their activations begins
     pub stand_begins : TasksStand p s
     stand_begins = record { tasks = tasks; complete = now.complete; runs_behind = runs_behind }
       where

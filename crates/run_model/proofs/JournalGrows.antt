@@ -21,6 +21,7 @@ use Rattle.run_model.proofs.NumbersParts.{held_starts, started_runs}
 use Rattle.run_model.proofs.JournalKept.{under_way, may_begin, refusal_may}
 use Rattle.run_model.proofs.RunStands.{RunStands, run_move}
 
+-- a journal has grown from itself
 pub grows_same : (j : JournalState) → GrowsFrom j j
 grows_same j = record { rows = λ n row there. (row.start, there); stamps = λ e s at. at; causes = λ t f at. refl }
 
@@ -31,6 +32,7 @@ grows_on i j k first second = record {
   causes = λ t f at. second.causes t f (first.stamps (Rattle.record_core.specs.Journal.Finishes t) f at) ∙ first.causes t f at;
 }
 
+-- an arrival leaves the journal
 pub arrives_grows : (j : JournalState) (r : Run) (n : ℕ) (after : Option ℕ) → GrowsFrom j r.journal → GrowsFrom j (arrives r n after).journal
 arrives_grows j r n None now = now
 arrives_grows j r n (Some u) now = by (found r.outcomes u)
@@ -40,6 +42,7 @@ arrives_grows j r n (Some u) now = by (found r.outcomes u)
     by (Some outcome) = now
 
 module _ (p : Program) (c : Columns) (limit units : ℕ) where
+  -- each move leaves what stands in the journal
   pub move_grows : (r s : Run) → RunStands p limit r → Move p c units r s → GrowsFrom r.journal s.journal
   move_grows r _ now (Move.goes_on t n q next runs goes) = grows_same r.journal
   move_grows r _ now (Move.spawned t n to q request retry block runs asks placed some) =

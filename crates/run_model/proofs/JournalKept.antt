@@ -71,13 +71,16 @@ drawn limit r task after now some under after_task = record {
 finished : (limit : ℕ) (r : Run) (t m : ℕ) (body : Body) (why : Cause) → NumbersStand r → RunsAt r t m body → MayCause r.journal why → JournalStands limit r → Journaled limit (with_finished r.journal t why)
 finished limit r t m body why held runs may now = record { journal = finish-keeps r.journal t why now.journal (under_way r t m body held runs) may; of_plan = now.of_plan }
 
+-- a cause of a refusal may be written of any journal
 pub refusal_may : (j : JournalState) (tag : CutTag) → MayCause j (cause_of_cut tag)
 refusal_may j Null = tt
 refusal_may j Limit = tt
 
+-- before the first root the journal is a new one
 pub journal_first : (plan : RunPlan) → JournalStands plan.limit (at_first plan)
 journal_first plan = record { journal = empty-is_journal plan.limit; of_plan = refl }
 
+-- a root's move writes into the journal as its calls allow
 pub journal_root : (limit : ℕ) (p : Program) (units : ℕ) (r s : Run) (root : RootLine) → IsNextRoot p r root → NumbersStand r → JournalStands limit r → RootMove p units r root s → JournalStands limit s
 journal_root limit p units r _ root next held now (RootMove.named block free placed some) =
     let request = root_request p r root in
@@ -87,6 +90,7 @@ journal_root limit p units r _ root next held now (RootMove.refused tag notes fr
 journal_root limit p units r _ root next held now (RootMove.skipped first e) = record { journal = now.journal; of_plan = now.of_plan }
 
 module _ (limit : ℕ) (p : Program) (c : Columns) (units : ℕ) where
+  -- each move writes into the journal as its calls allow
   pub journal_move : (r s : Run) → NumbersStand r → OutcomesStand r → JournalStands limit r → Move p c units r s → JournalStands limit s
   journal_move r _ held agree now (Move.goes_on t n q next runs goes) = record { journal = now.journal; of_plan = now.of_plan }
   journal_move r _ held agree now (Move.spawned t n to q request retry block runs asks placed some) =

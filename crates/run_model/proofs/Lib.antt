@@ -64,3 +64,9 @@ pub mod CountsRoots
 pub mod CountsRoom
 pub mod CountsEnd
 pub mod CountsUnrefused
+pub mod MadeInvariant
+pub mod MadeKept
+pub mod OrderKept
+pub mod MadeMoves
+pub mod FaithfulEnds
+pub mod RootsFirst

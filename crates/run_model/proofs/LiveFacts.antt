@@ -24,18 +24,23 @@ read_snoc f xs x same n =
     past : {A : Type 0} (xs : List A) → by_number xs (suc (length xs)) ≡ None
     past xs = Rattle.std.proofs.lemmas.Option.slice_get_past xs (length xs) (omega arith)
 
+-- a new task leaves each finish
 pub finish_snoc : (tasks : List TaskRow) (t : ℕ) → finish_of (tasks ++ unfinished ∷ []) t ≡ finish_of tasks t
 finish_snoc tasks t = read_snoc finish_in tasks unfinished refl t
 
+-- a new task leaves each outcome
 pub outcome_snoc : (outcomes : List (Option Outcome)) (t : ℕ) → found (outcomes ++ None ∷ []) t ≡ found outcomes t
 outcome_snoc outcomes t = read_snoc Rattle.record_core.specs.Numbers.flat outcomes None refl t
 
+-- a task is one still, with one row more
 pub task_snoc : (rows : List ActivationRow) (row : ActivationRow) (t : ℕ) → HasTask rows t → HasTask (rows ++ row ∷ []) t
 task_snoc rows row t (old, there, e) = (old, snoc_old rows row t old there, e)
 
+-- a task was one before, unless the new row begins it
 pub task_old : (rows : List ActivationRow) (row : ActivationRow) (t : ℕ) → t ≢ suc (length rows) → HasTask (rows ++ row ∷ []) t → HasTask rows t
 task_old rows row t differ (old, there, e) = (old, sym (snoc_other rows row t differ) ∙ there, e)
 
+-- a task's number is one of the rows
 pub task_within : (rows : List ActivationRow) (t : ℕ) → HasTask rows t → (1 ≤ t) × (t ≤ length rows)
 task_within rows t (row, there, e) = number_within rows t row there
 
@@ -66,11 +71,13 @@ module _ (rows : List ActivationRow) (tasks : List TaskRow) (outcomes : List (Op
   waits : {u n : ℕ} {other : ActivationRow} → IsLiveAt rows None u n other → other.start ≡ None
   waits {n = n} now = ⊎_elim (λ start. start) (λ runs. absurd (none-some n runs)) now.live
 
+  -- a live number is live still, whatever runs
   pub was_live : (u n : ℕ) (other : ActivationRow) → IsLiveAt rows None u n other → IsLiveAt rows running u n other
   was_live u n other now = record { there = now.there; of_task = now.of_task; live = inl (waits now) }
 
   -- while activation m of task t runs
   module _ (t m : ℕ) (now_row : ActivationRow) (runs_m : running ≡ Some m) (there_m : by_number rows m ≡ Some now_row) (task_m : now_row.task ≡ t) where
+    -- the running number is the live one of its task
     pub running_live : IsLiveAt rows running t m now_row
     running_live = record { there = there_m; of_task = task_m; live = inr runs_m }
 
@@ -287,6 +294,7 @@ pub record OneStarted (rows : List ActivationRow) (n stamp : ℕ) (row : Activat
   pub here : by_number rows' n ≡ Some (record row { start = Some stamp })
   pub others : (k : ℕ) → k ≢ n → by_number rows' k ≡ by_number rows k
 
+-- a start changes one row, and there the stamp alone
 pub one_started : (rows : List ActivationRow) (n stamp : ℕ) (row : ActivationRow) → by_number rows n ≡ Some row → OneStarted rows n stamp row (started_rows rows n stamp (by_number rows n))
 one_started rows n stamp row there =
     rw there (record { here = put_same rows n row (record row { start = Some stamp }) there; others = λ k differ. put_other rows n k (record row { start = Some stamp }) differ })
@@ -300,6 +308,7 @@ module _ (rows rows' : List ActivationRow) (n stamp : ℕ) (row : ActivationRow)
     pub after : now.after ≡ was.after
     pub start : (k ≡ n → now.start ≡ Some stamp) × (k ≢ n → now.start ≡ was.start)
 
+  -- each row now was one before
   pub was_row : (k : ℕ) (now : ActivationRow) → by_number rows' k ≡ Some now → WasRow k now
   was_row k now e =
       ⊎_elim
@@ -315,6 +324,7 @@ module _ (rows rows' : List ActivationRow) (n stamp : ℕ) (row : ActivationRow)
       (λ differ. record { was = now; stood = sym (started.others k differ) ∙ e; task = refl; after = refl; start = (λ same. absurd (differ same), λ _. refl) })
       (cases_eq k n)
 
+  -- each row before is one now, of the same task
   pub row_then : (k : ℕ) (was : ActivationRow) → by_number rows k ≡ Some was → (now : ActivationRow) × (by_number rows' k ≡ Some now) × (now.task ≡ was.task)
   row_then k was e =
       ⊎_elim
@@ -322,13 +332,16 @@ module _ (rows rows' : List ActivationRow) (n stamp : ℕ) (row : ActivationRow)
       (λ differ. (was, started.others k differ ∙ e, refl))
       (cases_eq k n)
 
+  -- each task before is one now
   pub task_then : (t : ℕ) → HasTask rows t → HasTask rows' t
   task_then t (was, e, task) = let (now, e', same) = row_then t was e in (now, e', same ∙ task)
 
+  -- each task now was one before
   pub task_was : (t : ℕ) → HasTask rows' t → HasTask rows t
   task_was t (now, e, task) = let w = was_row t now e in (w.was, w.stood, sym w.task ∙ task)
 
   module _ (tasks : List TaskRow) (outcomes : List (Option Outcome)) (bodies : List (Option Body)) (waiting : row.start ≡ None) (live : Live rows tasks outcomes bodies None) where
+    -- the live number of a task was the live one before the start
     pub live_then : (t k : ℕ) (now : ActivationRow) → IsLiveAt rows' (Some n) t k now → (was : ActivationRow) × IsLiveAt rows None t k was
     live_then t k now is_live =
         let w = was_row k now is_live.there in
@@ -340,6 +353,7 @@ module _ (rows rows' : List ActivationRow) (n stamp : ℕ) (row : ActivationRow)
         not_here : k ≢ n → (now.start ≡ None) ⊎ (Some n ≡ Some k) → now.start ≡ None
         not_here differ live = ⊎_elim (λ start. start) (λ e. absurd (differ (sym (same_Some n k e)))) live
 
+    -- tasks are live as before where a number starts
     pub live_starts : Live rows' tasks outcomes bodies (Some n)
     live_starts = record {
       of_task = λ t some. task_then t (live.of_task t some);

@@ -133,6 +133,7 @@ act_names c (Done value) q next x u e f = absurd (wrong e)
     wrong : Finishes (Number (operand q.numbers value)) ≡ Steps next → ⊥
     wrong h = cc
 
+-- a frame that goes on names what it named
 pub goes_names : (p : Program) (c : Columns) (r : Run) (q next : FrameOf ℕ) (u : ℕ) → Goes p c r q next → FrameNames next u → FrameNames q u
 goes_names p c r q _ u (Goes.steps next (line, there, e)) (x, f) = act_names c line.instr q next x u e f
 goes_names p c r q _ u (Goes.reads to x t n acts e g) (y, f) = (y, f)
@@ -146,6 +147,7 @@ waited_named q (Some x) u e = (x, e)
 pub entry_named : (p : Program) (call : CallOf ℕ) (x u : ℕ) → future_at (entry p call).futures x ≡ Some u → future_at call.futures x ≡ Some u
 entry_named p call x u e = future_at_padded (variables_of p call.kind) call.futures x u (future_at_kept 0 (holds_at p call.kind 0) (padded (variables_of p call.kind) None call.futures) x u e)
 
+-- a frame that enters a state names what it named
 pub enter_named : (p : Program) (q : FrameOf ℕ) (target x u : ℕ) → future_at (enter p q target).futures x ≡ Some u → future_at q.futures x ≡ Some u
 enter_named p q target x u e = future_at_kept 0 (holds_at p q.kind target) q.futures x u e
 
@@ -220,6 +222,7 @@ asks_call_named p c q _ _ u _ (Asks.calls line to call waits there e) (inl (x, f
 asks_call_named p c q _ _ u _ (Asks.calls line to call waits there e) (inr f) = waited_named q waits u f
 asks_call_named p c q _ _ u _ (Asks.gathers line to members there e) (at, f) = member_named q.futures members at u f
 
+-- a root's call names tasks of earlier roots
 pub root_call_named : (p : Program) (r : Run) (root : RootLine) (u : ℕ) → CallNames (root_request p r root).call u → (at : ℕ) × (slice_get r.roots at ≡ Some (Named u))
 root_call_named p r root u (inl (x, f)) = let (at, e) = root_future_named (own_tasks r) root.arguments x u f in (at, own_named r.roots at u e)
 root_call_named p r root u (inr f) = let (at, e) = root_waits_named (own_tasks r) root.behind u f in (at, own_named r.roots at u e)

@@ -92,9 +92,11 @@ arrives_nulls p r n (Some u) now = by (found r.outcomes u)
     by None = record { retried = now.retried; counted = now.counted; none = now.none; kept = now.kept }
     by (Some outcome) = record { retried = now.retried; counted = now.counted; none = now.none; kept = now.kept }
 
+-- before the first root there is no null answer
 pub nulls_first : (p : Program) (plan : RunPlan) → NullsStand p (at_first plan)
 nulls_first p plan = record { retried = 0; counted = refl; none = λ no_retry. refl; kept = (λ e. refl, λ e. refl) }
 
+-- a root's move keeps the account of null answers
 pub nulls_root : (p : Program) (units : ℕ) (r s : Run) (root : RootLine) → IsNextRoot p r root → NullsStand p r → RootMove p units r root s → NullsStand p s
 nulls_root p units r _ root next now (RootMove.named block free placed some) =
     let request = root_request p r root in
@@ -113,6 +115,7 @@ module _ (p : Program) (c : Columns) (units : ℕ) where
       let within = running_within r [] held t m body runs in
       nulls_ends r.journal.tasks t (r.journal.stamps + 1) why within.0 (omega (arith, within.1, held.beside.of_tasks)) (agree.open_ t (running_open r [] held t m body runs))
 
+  -- each move keeps the account of null answers
   pub nulls_move : (r s : Run) → NumbersStand r → OutcomesStand r → NullsStand p r → Move p c units r s → NullsStand p s
   nulls_move r _ held agree now (Move.goes_on t n q next runs goes) = record { retried = now.retried; counted = now.counted; none = now.none; kept = now.kept }
   nulls_move r _ held agree now (Move.spawned t n to q request retry block runs asks placed some) =

@@ -24,6 +24,7 @@ use Rattle.run_model.proofs.LiveFacts.{task_snoc, task_within}
 use Rattle.run_model.proofs.NumbersParts.{held_body, held_root, held_drawn, held_renewed, held_arrives, held_ends, held_starts, started_runs}
 use Rattle.run_model.proofs.Reached.{IsNextRoot}
 
+-- before the first root there is no number
 pub numbers_first : (plan : RunPlan) → NumbersStand (at_first plan)
 numbers_first plan = record {
   beside = record { of_tasks = refl; of_calls = refl; of_priorities = refl; of_outcomes = refl; of_waiters = refl; of_bodies = refl; of_blocks = refl };
@@ -66,6 +67,7 @@ runs_noted : (r : Run) (notes : Notes) (t m : ℕ) (body : Body) → RunsAt r t 
 runs_noted r notes t m body runs = record { row = runs.row; running = runs.running; there = runs.there; of_task = runs.of_task; has = runs.has }
 
 module _ (p : Program) (units : ℕ) where
+  -- a root's move keeps numbers, live tasks and names
   pub numbers_root : (r s : Run) (root : RootLine) → IsNextRoot p r root → NumbersStand r → RootMove p units r root s → NumbersStand s
   numbers_root r _ root next now (RootMove.named block free placed some) =
       held_arrives (with_root (accepts units r request block) (Named n)) n request.after row
@@ -102,6 +104,7 @@ module _ (p : Program) (units : ℕ) where
       differ t e = cc
 
 module _ (p : Program) (c : Columns) (units : ℕ) where
+  -- each move keeps numbers, live tasks and names
   pub numbers_move : (r s : Run) → NumbersStand r → Move p c units r s → NumbersStand s
   numbers_move r _ now (Move.goes_on t n q next runs goes) = held_body r [] now t (OfKind q) (OfKind next) runs.has (λ u named. names_task r t n u (OfKind q) now runs (goes_names p c r q next u goes named))
   numbers_move r _ now (Move.spawned t n to q request retry block runs asks placed some) =

@@ -26,6 +26,7 @@ pub if_some_at : {A : Type 0} (P : A → Type 0) (o : Option A) (u : A) → IfSo
 if_some_at P None u h e = absurd (none-some u e)
 if_some_at P (Some x) u h e = subst P (same_Some x u e) h
 
+-- what holds of whatever an option has holds of it
 pub if_some_from : {A : Type 0} (P : A → Type 0) (o : Option A) → ((u : A) → o ≡ Some u → P u) → IfSome o P
 if_some_from P None h = tt
 if_some_from P (Some x) h = h x refl
@@ -80,6 +81,7 @@ slice_snoc [] x y (suc i) e = absurd (none-some y e)
 slice_snoc (z ∷ xs) x y zero e = inl e
 slice_snoc (z ∷ xs) x y (suc i) e = ⊎_elim (λ old. inl old) (λ new. inr (ap suc new.0, new.1)) (slice_snoc xs x y i e)
 
+-- numbers stand still where one root more is answered
 pub held_root : (r : Run) (hand : List ℕ) (word : RootWord) → NumbersHeld r hand → ((t : ℕ) → word ≡ Named t → HasTask r.journal.rows t × ((at : ℕ) → slice_get r.roots at ≡ Some (Named t) → ⊥)) → NumbersHeld (with_root r word) hand
 held_root r hand word now fresh = record {
   beside = now.beside;

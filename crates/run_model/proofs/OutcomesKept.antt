@@ -29,6 +29,7 @@ use Rattle.run_model.proofs.RunsFacts.{running_within}
 use Rattle.run_model.proofs.OutcomesInvariant.{Outcomes, OutcomesStand}
 use Rattle.run_model.proofs.Reached.{IsNextRoot}
 
+-- a new task leaves each cause
 pub cause_snoc : (tasks : List TaskRow) (t : ℕ) → cause_of (tasks ++ unfinished ∷ []) t ≡ cause_of tasks t
 cause_snoc tasks t = read_snoc cause_in tasks unfinished refl t
 
@@ -61,19 +62,23 @@ refusal_cuts Null = refl
 refusal_cuts Limit = refl
 
 module _ (tasks : List TaskRow) (t stamp : ℕ) (why : Cause) (some : 1 ≤ t) (within : t ≤ length tasks) where
+  -- the task that ends has its cause
   pub cause_here : (u : ℕ) → u ≡ t → cause_of (put_number tasks t (record { finish = Some stamp; cause = why })) u ≡ why
   cause_here u same =
       let (was, there) = member_at tasks t some within in
       ap (cause_of (put_number tasks t (record { finish = Some stamp; cause = why }))) same ∙ ap cause_in (put_same tasks t was (record { finish = Some stamp; cause = why }) there)
 
+  -- each other task has the cause that it had
   pub cause_other : (u : ℕ) → u ≢ t → cause_of (put_number tasks t (record { finish = Some stamp; cause = why })) u ≡ cause_of tasks u
   cause_other u differ = ap cause_in (put_other tasks t u (record { finish = Some stamp; cause = why }) differ)
 
+  -- the task that ends has its stamp
   pub finish_here : (u : ℕ) → u ≡ t → finish_of (put_number tasks t (record { finish = Some stamp; cause = why })) u ≡ Some stamp
   finish_here u same =
       let (was, there) = member_at tasks t some within in
       ap (finish_of (put_number tasks t (record { finish = Some stamp; cause = why }))) same ∙ ap finish_in (put_same tasks t was (record { finish = Some stamp; cause = why }) there)
 
+  -- each other task has the stamp that it had
   pub finish_other : (u : ℕ) → u ≢ t → finish_of (put_number tasks t (record { finish = Some stamp; cause = why })) u ≡ finish_of tasks u
   finish_other u differ = ap finish_in (put_other tasks t u (record { finish = Some stamp; cause = why }) differ)
 
@@ -107,6 +112,7 @@ arrives_outcomes r n (Some u) now = by (found r.outcomes u)
     by None = record { gave = now.gave; cut = now.cut; open_ = now.open_ }
     by (Some outcome) = record { gave = now.gave; cut = now.cut; open_ = now.open_ }
 
+-- before the first root nothing has ended
 pub outcomes_first : (plan : RunPlan) → OutcomesStand (at_first plan)
 outcomes_first plan = record {
   gave = λ t v e. absurd (none-some (Gave v) (sym (ap Rattle.record_core.specs.Numbers.flat (none_of_empty t)) ∙ e));
@@ -114,6 +120,7 @@ outcomes_first plan = record {
   open_ = λ t e. ap cause_in (none_of_empty t);
 }
 
+-- a root's move keeps outcomes and causes in agreement
 pub outcomes_root : (p : Program) (units : ℕ) (r s : Run) (root : RootLine) → IsNextRoot p r root → OutcomesStand r → RootMove p units r root s → OutcomesStand s
 outcomes_root p units r _ root next now (RootMove.named block free placed some) =
     let request = root_request p r root in
@@ -129,6 +136,7 @@ module _ (p : Program) (c : Columns) (units : ℕ) where
       let within = running_within r [] held t m body runs in
       outcomes_ends r.journal.tasks r.outcomes t (r.journal.stamps + 1) outcome why within.0 (omega (arith, within.1, held.beside.of_tasks)) (omega (arith, within.1, held.beside.of_outcomes)) agree now
 
+  -- each move keeps outcomes and causes in agreement
   pub outcomes_move : (r s : Run) → NumbersStand r → OutcomesStand r → Move p c units r s → OutcomesStand s
   outcomes_move r _ held now (Move.goes_on t n q next runs goes) = record { gave = now.gave; cut = now.cut; open_ = now.open_ }
   outcomes_move r _ held now (Move.spawned t n to q request retry block runs asks placed some) =

@@ -37,6 +37,7 @@ module _ (test : SuperblockState → Bool) (P : SuperblockState → Type 0) (tel
       before zero s lt there = λ p. tells.no_ s (ap test (sym (same_Some x s there)) ∙ e) p
       before (suc k) s lt there = first.2 k s (omega arith) there
 
+  -- the first superblock that passes is found, or none passes
   pub first_found : (from : ℕ) (xs : List SuperblockState) → Finds from xs (first_where test from xs)
   first_found from [] = λ at s there. absurd (none-some s there)
   first_found from (x ∷ xs) = by (test x) refl (first_found (suc from) xs)
@@ -101,5 +102,6 @@ module _ (pool : PoolState) (class : ℕ) (fits : class ≤ 3) (sound : IsSound 
   both None (Some found) none (at, place, first) = gives_found found at place (inr (none, first))
   both (Some found) empty (at, place, first) rest = gives_found found at place (inl first)
 
+  -- a block is placed where the pool gives it, and none where it has no room
   pub placed_gives : MatchOption (placed pool class) (HasNoRoom pool class) IsGiven
   placed_gives = both _ _ (first_found (has_room class (capacity pool.units class)) (HasRoom class (capacity pool.units class)) (tells_room class (capacity pool.units class)) 0 pool.superblocks) (first_found is_empty IsEmpty tells_empty 0 pool.superblocks)

@@ -44,9 +44,11 @@ times_next q left n k e = by q.high q.regular q.low e
     by [] [] (x ∷ low) h = let p = parts x (record { high = []; regular = []; low = low }) h in omega (arith, p)
     by [] [] [] h = absurd (none-some (n, left) h)
 
+-- a number stands once in the list of itself
 pub times_self : (n : ℕ) → times n (n ∷ []) ≡ 1
 times_self n = rw (Rattle.std.proofs.Common.eq-eqb n n refl) refl
 
+-- another number does not stand there
 pub times_other : (n k : ℕ) → k ≢ n → times k (n ∷ []) ≡ 0
 times_other n k differ = rw (Rattle.std.proofs.lemmas.Bool.ne_eqb n k (λ e. differ (sym e))) refl
 
@@ -54,9 +56,11 @@ times_other n k differ = rw (Rattle.std.proofs.lemmas.Bool.ne_eqb n k (λ e. dif
 pub waiters_snoc : (waiters : List (List ℕ)) (u : ℕ) → waiters_of (waiters ++ [] ∷ []) u ≡ waiters_of waiters u
 waiters_snoc waiters u = read_snoc list_or waiters [] refl u
 
+-- a task has the waiters that were put there
 pub waiters_put : (waiters : List (List ℕ)) (u : ℕ) (ws : List ℕ) → 1 ≤ u → u ≤ length waiters → waiters_of (put_number waiters u ws) u ≡ ws
 waiters_put waiters u ws some within = let (old, there) = member_at waiters u some within in ap list_or (put_same waiters u old ws there)
 
+-- each other task has the waiters that it had
 pub waiters_put_other : (waiters : List (List ℕ)) (u v : ℕ) (ws : List ℕ) → v ≢ u → waiters_of (put_number waiters u ws) v ≡ waiters_of waiters v
 waiters_put_other waiters u v ws differ = ap list_or (put_other waiters u v ws differ)
 
@@ -69,6 +73,7 @@ total_put k waiters (suc u) ws some within =
     let changed = total-set (times k) waiters u old ws there in
     let is_old : times k (waiters_of waiters (suc u)) ≡ times k old = ap (λ o. times k (list_or o)) there in omega (arith, changed, is_old)
 
+-- a task's waiters are among all
 pub waiters_within : (k : ℕ) (waiters : List (List ℕ)) (u : ℕ) → times k (waiters_of waiters u) ≤ total (times k) waiters
 waiters_within k waiters zero = omega arith
 waiters_within k waiters (suc u) = by (by_number waiters (suc u)) refl
@@ -81,6 +86,7 @@ waiters_within k waiters (suc u) = by (by_number waiters (suc u)) refl
 pub waits_still : (row : ActivationRow) → row.start ≡ None → not_started (Some row) ≡ 1
 waits_still row e = ap (λ (o : Option ℕ). elim o [ None ↦ 1 | Some s ↦ 0 ]) e
 
+-- a number with a stamp is no longer one that has not started
 pub has_begun : (row : ActivationRow) (s : ℕ) → row.start ≡ Some s → not_started (Some row) ≡ 0
 has_begun row s e = ap (λ (o : Option ℕ). elim o [ None ↦ 1 | Some s ↦ 0 ]) e
 

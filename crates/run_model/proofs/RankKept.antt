@@ -243,9 +243,11 @@ arrives_rank r n (Some u) now = by (found r.outcomes u)
     by None = record { rank = now.rank; falls = now.falls }
     by (Some outcome) = record { rank = now.rank; falls = now.falls }
 
+-- before the first root nothing is named
 pub rank_first : (plan : RunPlan) → RankStands (at_first plan)
 rank_first plan = record { rank = λ x. 0; falls = λ t u named. absurd (none-some named.0 (sym (ap flat (none_of_empty t)) ∙ named.1)) }
 
+-- a root's move keeps what is named below who names it
 pub rank_root : (p : Program) (units : ℕ) (r s : Run) (root : RootLine) → IsNextRoot p r root → NumbersStand r → RankStands r → RootMove p units r root s → RankStands s
 rank_root p units r _ root next held now (RootMove.named block free placed some) =
     let request = root_request p r root in
@@ -255,6 +257,7 @@ rank_root p units r _ root next held now (RootMove.refused tag notes free how) =
 rank_root p units r _ root next held now (RootMove.skipped first e) = record { rank = now.rank; falls = now.falls }
 
 module _ (p : Program) (c : Columns) (units : ℕ) where
+  -- each move keeps what is named below who names it
   pub rank_move : (r s : Run) → NumbersStand r → RankStands r → Move p c units r s → RankStands s
   rank_move r _ held now (Move.goes_on t n q next runs goes) =
       let less = fewer r.journal.rows r.journal.rows r.running r.running r.bodies (put_number r.bodies t (Some (OfKind next)))

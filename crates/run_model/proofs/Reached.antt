@@ -41,6 +41,7 @@ pub record OneMoreRoot (r s : Run) : Type 0 where
   pub roots : s.roots ≡ r.roots ++ word ∷ []
   pub running : s.running ≡ r.running
 
+-- a root's move answers one root more
 pub one_more_root : (p : Program) (units : ℕ) (r s : Run) (root : RootLine) → RootMove p units r root s → OneMoreRoot r s
 one_more_root p units r s root (RootMove.named block free placed some) =
     let new = with_root (accepts units r (root_request p r root) block) (Named (next_number r.journal)) in

@@ -11,6 +11,7 @@ use Rattle.run_model.specs.State.{Outcome, Run}
 use Rattle.run_model.specs.Step.{arrives, waits_or_queues, accepts, draws, with_body}
 use Rattle.run_model.specs.Move.{with_notes, Move}
 
+-- an arrival leaves the root words
 pub arrives_same_roots : (r : Run) (n : ℕ) (after : Option ℕ) → (arrives r n after).roots ≡ r.roots
 arrives_same_roots r n None = refl
 arrives_same_roots r n (Some u) = by (found r.outcomes u)

@@ -35,12 +35,12 @@ use Rattle.run_model.proofs.RootsInvariant.{skipped_from, RootsStand}
 use Rattle.run_model.proofs.Reached.{IsNextRoot}
 
 -- an earlier member stays where one more comes
-get_snoc : {A : Type 0} (xs : List A) (x : A) (i : ℕ) → i < length xs → slice_get (xs ++ x ∷ []) i ≡ slice_get xs i
+pub get_snoc : {A : Type 0} (xs : List A) (x : A) (i : ℕ) → i < length xs → slice_get (xs ++ x ∷ []) i ≡ slice_get xs i
 get_snoc [] x i lt = absurd (omega arith)
 get_snoc (y ∷ xs) x zero lt = refl
 get_snoc (y ∷ xs) x (suc i) lt = get_snoc xs x i (omega arith)
 
-get_last : {A : Type 0} (xs : List A) (x : A) → slice_get (xs ++ x ∷ []) (length xs) ≡ Some x
+pub get_last : {A : Type 0} (xs : List A) (x : A) → slice_get (xs ++ x ∷ []) (length xs) ≡ Some x
 get_last [] x = refl
 get_last (y ∷ xs) x = get_last xs x
 
@@ -49,6 +49,7 @@ future_snoc [] o i lt = absurd (omega arith)
 future_snoc (f ∷ own) o zero lt = refl
 future_snoc (f ∷ own) o (suc i) lt = future_snoc own o i (omega arith)
 
+-- the last root's task is found at its position
 pub future_last : (own : List (Option ℕ)) (o : Option ℕ) → future_at (own ++ o ∷ []) (length own) ≡ o
 future_last [] o = refl
 future_last (f ∷ own) o = future_last own o
@@ -58,10 +59,12 @@ future_within [] i t e = absurd (none-some t e)
 future_within (f ∷ own) zero t e = omega arith
 future_within (f ∷ own) (suc i) t e = let rest = future_within own i t e in omega arith
 
+-- one root word more is one own task more
 pub own_snoc : (words : List RootWord) (word : RootWord) → map own_task (words ++ word ∷ []) ≡ map own_task words ++ own_task word ∷ []
 own_snoc [] word = refl
 own_snoc (w ∷ words) word = ap (λ rest. own_task w ∷ rest) (own_snoc words word)
 
+-- there are as many own tasks as root words
 pub own_length : (words : List RootWord) → length (map own_task words) ≡ length words
 own_length [] = refl
 own_length (w ∷ words) = ap suc (own_length words)
@@ -146,12 +149,14 @@ argument_named (root_argument.Root r ∷ more) (suc at) k e = let (i, f) = argum
 
 -- the same call where one more root has a task
 module _ (own : List (Option ℕ)) (o : Option ℕ) where
+  -- a root's arguments name the same tasks with one root more
   pub futures_snoc : (arguments : List RootArgument) → Each arguments (IsFormedRootArgument (length own)) → map (root_future (own ++ o ∷ [])) arguments ≡ map (root_future own) arguments
   futures_snoc [] formed = refl
   futures_snoc (root_argument.Number n ∷ more) formed = ap (λ rest. None ∷ rest) (futures_snoc more (λ at a e. formed (suc at) a e))
   futures_snoc (root_argument.Root r ∷ more) formed =
       ap (λ f. f ∷ map (root_future (own ++ o ∷ [])) more) (future_snoc own o r (formed 0 (root_argument.Root r) refl)) ∙ ap (λ rest. future_at own r ∷ rest) (futures_snoc more (λ at a e. formed (suc at) a e))
 
+  -- a root is behind the same task with one root more
   pub waits_snoc : (behind : Option ℕ) → IfSome behind (λ earlier. earlier < length own) → root_waits (own ++ o ∷ []) behind ≡ root_waits own behind
   waits_snoc None formed = refl
   waits_snoc (Some r) formed = future_snoc own o r formed
@@ -220,6 +225,7 @@ arrives_roots p r n (Some u) now = by (found r.outcomes u)
     by None = record { few = now.few; skipped = now.skipped; tasks = now.tasks }
     by (Some outcome) = record { few = now.few; skipped = now.skipped; tasks = now.tasks }
 
+-- before the first root nothing was asked for
 pub roots_first : (p : Program) (plan : RunPlan) → RootsStand p (at_first plan)
 roots_first p plan = record { few = omega arith; skipped = λ at root word there e. absurd (none-some word e); tasks = λ at root t there e. absurd (none-some t e) }
 
@@ -302,9 +308,11 @@ module _ (p : Program) (formed : IsWellFormed p) (units : ℕ) where
         let up = task_up p formed (r.calls ++ call ∷ []) (own_tasks r) (Some n) (length (own_tasks r)) root n (ap (slice_get p.roots) (own_length r.roots) ∙ next.there) (omega arith) new_task in
         rw (sym is_root, sym (same_Some n t e)) up
 
+    -- root tasks are as their lines say, with one more
     pub tasks_with : AreRootTasks p (r.calls ++ call ∷ []) (map own_task (r.roots ++ Named n ∷ []))
     tasks_with = subst (AreRootTasks p (r.calls ++ call ∷ [])) (sym (own_snoc r.roots (Named n))) (one_more p formed (r.calls ++ call ∷ []) (own_tasks r) (Some n) (tasks_later p r.calls call (own_tasks r) now.tasks) lifted)
 
+  -- a root's move keeps what became of roots
   pub roots_root : (r s : Run) (root : RootLine) → IsNextRoot p r root → NumbersStand r → RootsStand p r → RootMove p units r root s → RootsStand p s
   roots_root r _ root next held now (RootMove.refused tag notes free how) =
       record { few = few_more r root (Refused tag) next; skipped = word_added r root (Refused tag) next now free; tasks = no_task r (Refused tag) now refl }
@@ -315,6 +323,7 @@ module _ (p : Program) (formed : IsWellFormed p) (units : ℕ) where
       (record { few = few_more r root (Named (next_number r.journal)) next; skipped = word_added r root (Named (next_number r.journal)) next now free; tasks = tasks_with r root next held now free })
 
 module _ (p : Program) (c : Columns) (units : ℕ) where
+  -- each move keeps what became of roots
   pub roots_move : (r s : Run) → RootsStand p r → Move p c units r s → RootsStand p s
   roots_move r _ now (Move.goes_on t n q next runs goes) = record { few = now.few; skipped = now.skipped; tasks = now.tasks }
   roots_move r _ now (Move.spawned t n to q request retry block runs asks placed some) =

@@ -32,6 +32,7 @@ pub record RunStands (p : Program) (limit : ℕ) (r : Run) : Type 0 where
   pub journal : JournalStands limit r
   pub causes : CausesStand r
 
+-- what every run keeps holds before the first root
 pub run_first : (p : Program) (plan : RunPlan) → RunStands p plan.limit (at_first plan)
 run_first p plan = record {
   numbers = numbers_first plan;
@@ -43,6 +44,7 @@ run_first p plan = record {
   causes = causes_first plan;
 }
 
+-- a root's move keeps it
 pub run_root : (p : Program) (limit units : ℕ) (r s : Run) (root : RootLine) → IsNextRoot p r root → RunStands p limit r → RootMove p units r root s → RunStands p limit s
 run_root p limit units r s root next now move = record {
   numbers = numbers_root p units r s root next now.numbers move;
@@ -54,6 +56,7 @@ run_root p limit units r s root next now move = record {
   causes = causes_root p units r s root next now.numbers now.journal.journal now.causes move;
 }
 
+-- each move keeps it
 pub run_move : (p : Program) (c : Columns) (limit units : ℕ) (r s : Run) → RunStands p limit r → Move p c units r s → RunStands p limit s
 run_move p c limit units r s now move = record {
   numbers = numbers_move p c units r s now.numbers move;
@@ -65,6 +68,7 @@ run_move p c limit units r s now move = record {
   causes = causes_move p c units r s now.numbers now.outcomes now.journal.journal now.causes move;
 }
 
+-- so it holds at each step of each run
 pub run_kept : (p : Program) (c : Columns) (plan : RunPlan) → IsKept p c plan (RunStands p plan.limit)
 run_kept p c plan = record {
   first = run_first p plan;

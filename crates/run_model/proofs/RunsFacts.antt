@@ -12,9 +12,11 @@ module _ (r : Run) (hand : List ℕ) (now : NumbersHeld r hand) (t m : ℕ) (bod
   pub running_task : HasTask r.journal.rows t
   running_task = (body_task r.journal.rows r.journal.tasks r.outcomes r.bodies r.running now.live t body runs.has).0
 
+  -- the task that runs has not finished
   pub running_open : finish_of r.journal.tasks t ≡ None
   running_open = (body_task r.journal.rows r.journal.tasks r.outcomes r.bodies r.running now.live t body runs.has).1
 
+  -- the task that runs has one of the numbers
   pub running_within : (1 ≤ t) × (t ≤ length r.journal.rows)
   running_within = task_within r.journal.rows t running_task
 

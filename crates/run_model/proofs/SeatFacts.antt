@@ -89,15 +89,19 @@ module _ (p : Program) (formed : IsWellFormed p) (valid : IsValid p) (c : Column
 
   -- the line at which the frame stands is formed and sound
   module _ (line : Line) (there : slice_get (code_at p q.kind q.state) q.at ≡ Some line) where
+    -- a seated frame stands at a line
     pub seat_line : slice_get seat.state.code q.at ≡ Some line
     seat_line = ap (λ (ls : List Line). slice_get ls q.at) (sym seat_code) ∙ there
 
+    -- and at an instruction
     pub seat_instr : instr_at seat.state q.at ≡ Some line.instr
     seat_instr = ap (option_map (λ (l : Line). l.instr)) seat_line
 
+    -- the instruction is well formed
     pub seat_formed : IsFormedInstr p seat.kind seat.state q.at line.instr
     seat_formed = seat_state.instrs q.at line seat_line
 
+    -- the instruction is sound
     pub seat_sound : IsSoundInstr p seat.kind seat.state q.at line.instr
     seat_sound = ((valid.kinds q.kind seat.kind seat.is_kind).states q.state seat.state seat.is_state).instrs q.at line.instr seat_instr
 

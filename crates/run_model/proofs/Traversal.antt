@@ -145,5 +145,6 @@ module _ (p : Program) (units : ℕ) (r : Run) (root : RootLine) where
   root_moved None e = root_asked _ e refl
   root_moved (Some first) e = RootMove.skipped first e
 
+-- each root moves
 pub root_moves : RootsMove
 root_moves p units r root = root_moved p units r root _ refl

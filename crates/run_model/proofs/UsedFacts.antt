@@ -21,6 +21,7 @@ any_true {A = A} test (x ∷ xs) e = by (test x) refl (any_true test xs) e
     by true here rest h = (0, x, refl, here)
     by false here rest h = let (at, y, there, passes) = rest h in (suc at, y, there, passes)
 
+-- a list with a member that passes has one that passes
 pub any_from : {A : Type 0} (test : A → Bool) (xs : List A) (at : ℕ) (x : A) → slice_get xs at ≡ Some x → test x ≡ true → list_any test xs ≡ true
 any_from test [] at x there passes = absurd (none-some x there)
 any_from test (y ∷ xs) zero x there passes = ap (λ b. b || list_any test xs) (ap test (same_Some y x there) ∙ passes)
@@ -72,6 +73,7 @@ future_named futures u = (there futures, back futures)
     back : (futures : List (Option ℕ)) → ((x : ℕ) × (future_at futures x ≡ Some u)) → list_any (is_task u) futures ≡ true
     back futures (x, e) = any_from (is_task u) futures x (Some u) (get futures x e) (eq-eqb u u refl)
 
+-- the test of a body says who is named
 pub body_named : (body : Body) (u : ℕ) → body_names u body ≡ true ↔ BodyNames body u
 body_named (OfKind q) u = future_named q.futures u
 body_named (OfMembers members next) u = (there, back)
@@ -82,6 +84,7 @@ body_named (OfMembers members next) u = (there, back)
     back : ((at : ℕ) × (slice_get members at ≡ Some u)) → has u members ≡ true
     back (at, e) = any_from (nat_eq u) members at u e (eq-eqb u u refl)
 
+-- the test of a root word says who is named
 pub root_named_so : (word : RootWord) (u : ℕ) → root_names u word ≡ true ↔ (word ≡ Named u)
 root_named_so (Named t) u = (λ e. ap Named (eqb-true t u e), λ e. eq-eqb t u (same e))
   where

@@ -77,9 +77,11 @@ module _ (units : ℕ) (supers : List Super) (unit_count : IsUnitCount units) (c
       let fits = classes placed.place placed.super placed.there in
       eq-eqb (b.unit / units) placed.place (ap (λ (x : BlockState). x.unit / units) placed.block_is ∙ place_of_unit units placed.super.class placed.place placed.bit unit_count fits placed.below)
 
+  -- a placed block stands in one superblock
   pub is_place : (b : BlockState) (placed : IsPlaced units supers b) (place : ℕ) → stands_in units place b ≡ true → placed.place ≡ place
   is_place b placed place e = sym (eqb-true (b.unit / units) placed.place (stands_here b placed)) ∙ eqb-true (b.unit / units) place e
 
+  -- a placed block stands at its bit
   pub stands_bit : (b : BlockState) (placed : IsPlaced units supers b) → stands_at units placed.place placed.bit b ≡ true
   stands_bit b placed =
       and_from (stands_in units placed.place b) (nat_eq b.unit (placed.place * units + placed.bit * block_units b.class)) (stands_here b placed)
@@ -154,6 +156,7 @@ pub set_in_length : (units place : ℕ) (bs : List BlockState) (bit left : ℕ) 
 set_in_length units place bs bit zero = refl
 set_in_length units place bs bit (suc left) = ap suc (set_in_length units place bs (suc bit) left)
 
+-- a bit is set where a block stands at it
 pub set_in_at : (units place : ℕ) (bs : List BlockState) (bit left i : ℕ) → i < left → slice_get (set_in units place bs bit left) i ≡ Some (list_any (stands_at units place (bit + i)) bs)
 set_in_at units place bs bit zero i lt = absurd (omega arith)
 set_in_at units place bs bit (suc left) zero lt = ap (λ k. Some (list_any (stands_at units place k) bs)) (omega arith)
@@ -183,12 +186,14 @@ superblock_at units bs from (suc at) (super ∷ supers) s e =
     let (found, there, is_s) = superblock_at units bs (suc from) at supers s e in
     let same : suc from + at ≡ from + suc at = omega arith in (found, there, is_s ∙ ap (λ k. superblock_of units bs k found) same)
 
+-- a superblock is made of the blocks that stand in it
 pub superblock_from : (units : ℕ) (bs : List BlockState) (from at : ℕ) (supers : List Super) (super : Super) → slice_get supers at ≡ Some super → slice_get (superblocks_from units bs from supers) at ≡ Some (superblock_of units bs (from + at) super)
 superblock_from units bs from at [] super e = absurd (none-some super e)
 superblock_from units bs from zero (other ∷ supers) super e = let same : from ≡ from + zero = omega arith in ap (λ s. Some (superblock_of units bs from s)) (same_Some other super e) ∙ ap (λ k. Some (superblock_of units bs k super)) same
 superblock_from units bs from (suc at) (other ∷ supers) super e =
     let same : suc from + at ≡ from + suc at = omega arith in superblock_from units bs (suc from) at supers super e ∙ ap (λ k. Some (superblock_of units bs k super)) same
 
+-- there are as many superblocks as words
 pub superblocks_length : (units : ℕ) (bs : List BlockState) (from : ℕ) (supers : List Super) → length (superblocks_from units bs from supers) ≡ length supers
 superblocks_length units bs from [] = refl
 superblocks_length units bs from (super ∷ supers) = ap suc (superblocks_length units bs (suc from) supers)
@@ -203,6 +208,7 @@ pub record BlocksFit (units : ℕ) (supers : List Super) (bs : List BlockState) 
   pub differ : AllDiffer bs
 
 module _ (units : ℕ) (supers : List Super) (bs : List BlockState) (unit_count : IsUnitCount units) (fit : BlocksFit units supers bs) where
+  -- each superblock has a class that there is
   pub classes_of : (place : ℕ) (super : Super) → slice_get supers place ≡ Some super → super.class ≤ 3
   classes_of place super there = (fit.supers_fit place super there).class_fits
 
@@ -236,6 +242,7 @@ module _ (units : ℕ) (supers : List Super) (bs : List BlockState) (unit_count 
           let same_super : placed.super ≡ super = same_Some placed.super super (sym placed.there ∙ ap (slice_get supers) same_place ∙ there) in
           subst (λ (s : Super). i < capacity units s.class) same_super (subst (λ k. k < capacity units placed.super.class) (sym same_bit) placed.below)
 
+  -- the pool of blocks that stand apart is sound
   pub sound_of : 1 ≤ length supers → length supers ≤ 1024 → IsSound (pool_with units supers bs)
   sound_of some few = record {
     some = omega (arith, some, superblocks_length units bs 0 supers);
@@ -245,6 +252,7 @@ module _ (units : ℕ) (supers : List Super) (bs : List BlockState) (unit_count 
         let same : 0 + at ≡ at = omega arith in subst (IsKept units) (sym (is_s ∙ ap (λ k. superblock_of units bs k super) same)) (kept at super there);
   }
 
+  -- each block in use is out
   pub out_of : (at : ℕ) (b : BlockState) → slice_get bs at ≡ Some b → IsOut (pool_with units supers bs) b
   out_of at b has =
       let placed = fit.placed at b has in

@@ -279,6 +279,7 @@ record HeldValues (p : Program) (c : Columns) (r : Run) : Type 0 where
   frames : FramesStand p r
   values : ValuesStand p c r
 
+-- at each step of a run of a valid program values are the meaning's
 pub values_always : (p : Program) → IsWellFormed p → IsValid p → (c : Columns) (plan : RunPlan) (taken : ℕ) → ValuesStand p c (steps p c plan.units taken (asked p plan))
 values_always p formed valid c plan taken = (always p c plan (HeldValues p c) kept taken).values
   where

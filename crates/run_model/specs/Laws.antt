@@ -17,7 +17,8 @@ use Rattle.record_core.specs.Journal.{AreOfTasks, AreStampedOnce, AreInOrder, Ca
 use Rattle.record_core.specs.JournalLaws.{GrowsFrom}
 use Rattle.record_core.specs.EndSeen.{EndSeen, RunPlan}
 use Rattle.record_core.specs.EndSound.{EndSound, EndComplete, IsComplete, HasNoRetry, HasEvidence, AreOwn, IsCutAsNamed, null_ends, own_of_class}
-use Rattle.record_core.specs.EndFaithful.{EndFaithful}
+use Rattle.record_core.specs.EndCalls.{IsOwn}
+use Rattle.record_core.specs.EndFaithful.{EndFaithful, HidesNoCut, AreAsAsked}
 use Rattle.record_core.specs.declared.rows.ActivationRow.{ActivationRow}
 use Rattle.record_core.specs.declared.rows.Cause.TheVariants as cause
 use Rattle.record_core.specs.declared.rows.RootEnd.TheVariants.{Cut}
@@ -72,12 +73,26 @@ pub record IsInOrder (p : Program) (plan : RunPlan) (e : EndSeen) : Type 0 where
 abbrev pub EndsAreInOrder : Type 0
 EndsAreInOrder = (p : Program) (c : Columns) (plan : RunPlan) (end : Run) → OneThreadRun p c plan end → IsInOrder p plan (end_seen plan end)
 
--- of a well-formed program, it hides no cut, and skips a root exactly where it names one without a task
-abbrev pub EndsAreFaithful : Type 0
-EndsAreFaithful = (p : Program) (c : Columns) (plan : RunPlan) (end : Run) → IsWellFormed p → OneThreadRun p c plan end → EndFaithful p (end_seen plan end)
+-- it hides no cut
+abbrev pub EndsHideNoCut : Type 0
+EndsHideNoCut = (p : Program) (c : Columns) (plan : RunPlan) (end : Run) → OneThreadRun p c plan end → HidesNoCut (end_seen plan end)
+
+-- of a well-formed program, its roots have the tasks that they were asked for, and it skips a root exactly where it names one
+-- without a task
+abbrev pub EndsAreAsAsked : Type 0
+EndsAreAsAsked = (p : Program) (c : Columns) (plan : RunPlan) (end : Run) → IsWellFormed p → OneThreadRun p c plan end → AreAsAsked p (end_seen plan end)
 
 abbrev pub EndsSkipAsNamed : Type 0
 EndsSkipAsNamed = (p : Program) (c : Columns) (plan : RunPlan) (end : Run) → IsWellFormed p → OneThreadRun p c plan end → EachAt (end_seen plan end).roots (IsCutAsNamed p (end_seen plan end).roots)
+
+-- of a valid program, it is faithful: beside all of this each task is of a root, and the evidence is that of a refused block
+abbrev pub EndsAreFaithful : Type 0
+EndsAreFaithful = (p : Program) (c : Columns) (plan : RunPlan) (end : Run) → IsWellFormed p → IsValid p → IsGeometry plan.superblocks plan.units → OneThreadRun p c plan end → EndFaithful p (end_seen plan end)
+
+-- whatever the program is, roots are asked for first: their own tasks have smaller numbers than all other tasks
+abbrev pub EndsAskRootsFirst : Type 0
+EndsAskRootsFirst = (p : Program) (c : Columns) (plan : RunPlan) (end : Run) → OneThreadRun p c plan end → (t m : ℕ) → IsOwn (end_seen plan end).own t → HasTask (end_seen plan end).rows m
+    → (IsOwn (end_seen plan end).own m → ⊥) → t < m
 
 -- at each moment the pool of the blocks in use is sound
 abbrev pub PoolsAreSound : Type 0

@@ -1,4 +1,4 @@
-ghost use Rattle.run_model.specs.Laws.{BlocksAreApart, CountsWhereNothingIsRefused, EndsAreComplete, EndsAreFaithful, EndsAreInOrder, EndsAreSound, EndsHaveEvidence, EndsHoldRoots, EndsSkipAsNamed, OneEnd, PlacesAsPoolsGive, PoolsAreSound, RunsEnd, StartsOnce};
+ghost use Rattle.run_model.specs.Laws.{BlocksAreApart, CountsWhereNothingIsRefused, EndsAreAsAsked, EndsAreComplete, EndsAreFaithful, EndsAreInOrder, EndsAreSound, EndsAskRootsFirst, EndsHaveEvidence, EndsHideNoCut, EndsHoldRoots, EndsSkipAsNamed, OneEnd, PlacesAsPoolsGive, PoolsAreSound, RunsEnd, StartsOnce};
 ghost use Rattle.run_model.specs.Move.{RootsMove, StepsMove};
 ghost use Rattle.run_model.specs.RuleRuns.{RuleRuns};
 ghost use Rattle.run_model.specs.ExampleRuns.{ExampleRuns};
@@ -42,9 +42,14 @@ pub fn ends_are_in_order()
     ensures { EndsAreInOrder }
 {}
 
-/// The end of a run hides no cut, and skips a root exactly where it names one without a task.
+/// The end of a run hides no cut, its roots have the tasks that they were asked for, before all
+/// others, and it skips a root exactly where it names one without a task. Each of its tasks is of a
+/// root, and its evidence is that of a refused block.
 pub fn ends_are_faithful()
     ensures faithful { EndsAreFaithful }
+    ensures cuts { EndsHideNoCut }
+    ensures asked { EndsAreAsAsked }
+    ensures first { EndsAskRootsFirst }
     ensures skipped { EndsSkipAsNamed }
 {}
 

@@ -1,0 +1,260 @@
+-- A run keeps who made its tasks: move by move.
+use Rattle.std.proofs.Common.{◌≡◌, ◌⊎◌, ℕ, suc, ◌+◌, ◌<◌, ◌≤◌, Bool, true, false, Option, Some, None, List, [], ◌∷◌, ◌++◌, length, map, slice_get, refl, sym, ◌∙◌, ap, subst, inl, inr, ⊎_elim, arith}
+use Rattle.std.specs.Prelude.{IsSome}
+use Rattle.std.specs.Option.{is_some}
+use Rattle.std.proofs.lemmas.Option.{none-some, same_Some}
+use Rattle.task_syntax.specs.Form.{IsWellFormed}
+use Rattle.task_syntax.specs.Valid.{IsValid}
+use Rattle.task_syntax.specs.declared.value.Priority.{Priority}
+use Rattle.task_syntax.specs.declared.instr.Instr.{Instr}
+use Rattle.task_syntax.specs.declared.program.Root.{Root as RootLine}
+use Rattle.task_syntax.specs.declared.program.Program.{Program}
+use Rattle.task_syntax.specs.declared.columns.Columns.{Columns}
+use Rattle.task_meaning.specs.Frame.{FrameOf, CallOf, code_at, set_future}
+use Rattle.task_meaning.specs.Acts.{Calls, Gathers}
+use Rattle.task_meaning.specs.Worths.{OfCall, Respawn}
+use Rattle.frame_code.specs.Words.{OfKind}
+use Rattle.record_core.specs.Numbers.{by_number}
+use Rattle.record_core.specs.Journal.{next_number, with_accepted, with_begun, start_in, cause_of}
+use Rattle.record_core.specs.EndSeen.{RunPlan}
+use Rattle.record_core.specs.EndSound.{kind_class, members_class, IsNoRetry}
+use Rattle.record_core.specs.EndCalls.{AsksFor, AsksForCall, AsksForMembers, HasInstr, class_wanted}
+use Rattle.record_core.specs.declared.rows.ActivationRow.{ActivationRow}
+use Rattle.record_core.specs.declared.rows.Cause.TheVariants as cause
+use Rattle.record_core.specs.declared.rows.CutTag.{CutTag}
+use Rattle.record_core.specs.declared.rows.CutTag.TheVariants.{Null}
+use Rattle.run_model.specs.State.{Body, Named, Refused, Skipped, Evidence, Run}
+use Rattle.run_model.specs.Placing.{pool_of, words_of}
+use Rattle.run_model.specs.Step.{Request, accepts, cause_of_cut, draws, evidence_or, root_request, tasks_named, with_body, with_root, at_first}
+use Rattle.run_model.specs.Move.{Asks, Move, Notes, Refuses, RefusesRoot, Renews, RootMove, RunsAt, with_notes}
+use Rattle.run_model.proofs.ByNumber.{none_of_empty, number_within, snoc_cases, snoc_new, snoc_old}
+use Rattle.run_model.proofs.CodeFacts.{no_retry}
+use Rattle.run_model.proofs.FramesInvariant.{FramesStand}
+use Rattle.run_model.proofs.FramesKept.{running_stands}
+use Rattle.run_model.proofs.JournalGrows.{grows_same, move_grows}
+use Rattle.run_model.proofs.LineFacts.{shape_of}
+use Rattle.run_model.proofs.LiveFacts.{finish_snoc, same_row, task_within}
+use Rattle.run_model.proofs.NumbersInvariant.{IsLive}
+use Rattle.run_model.proofs.MadeInvariant.{IsMadeNow, IsRefused, MadeStands}
+use Rattle.run_model.proofs.MadeKept.{Goes, RowWas, arrives_made, begun_was, finished_was, made_goes, refused_stays}
+use Rattle.run_model.proofs.NumbersParts.{next_row}
+use Rattle.run_model.proofs.OrderKept.{as_many_begun, draws_goes, is_next, none_past, root_goes, stays_goes}
+use Rattle.run_model.proofs.OutcomesKept.{cause_here, cause_snoc}
+use Rattle.run_model.proofs.Reached.{IsNextRoot}
+use Rattle.run_model.proofs.RootsKept.{get_last}
+use Rattle.run_model.proofs.RunStands.{RunStands}
+use Rattle.run_model.proofs.RunsFacts.{running_number, running_open, running_within}
+use Rattle.run_model.proofs.TasksStand.{tasks_of}
+use Rattle.run_model.proofs.ValuesKept.{gather_names}
+
+-- a task that runs has the instruction at which it asks for a new task, and the instruction asks for that call and class
+record IsAsked (p : Program) (r : Run) (t : ℕ) (request : Request) (retry : Bool) : Type 0 where
+  instr : Instr
+  has : HasInstr p r.calls t instr
+  asks : AsksFor instr request.call
+  class : class_wanted p instr ≡ Some request.class
+  again : retry ≡ true → IsNoRetry instr → ⊥
+
+pub map_length : {A B : Type 0} (f : A → B) (xs : List A) → length (map f xs) ≡ length xs
+map_length f [] = refl
+map_length f (x ∷ xs) = ap suc (map_length f xs)
+
+module _ (p : Program) (formed : IsWellFormed p) (valid : IsValid p) (c : Columns) (limit : ℕ) (r : Run) (run : RunStands p limit r) (frames : FramesStand p r) where
+  is_asked : (t n to : ℕ) (q : FrameOf ℕ) (request : Request) (retry : Bool) → RunsAt r t n (OfKind q) → Asks p c q request to retry → IsAsked p r t request retry
+  is_asked t n _ q _ _ runs (Asks.calls line to call waits there e) =
+      let (kind, arguments, priority, retry, is_spawn, is_call) = shape_of c line.instr q (Calls to call waits) e in
+      let (made, behind, is_made, of_kind) = frames.of_call t q runs.has in
+      let same : call.kind ≡ kind = ap (λ (k : CallOf ℕ). k.kind) is_call in
+      record {
+        instr = line.instr;
+        has = record { call = made; waits = behind; is_call = is_made; in_kind = record { state = q.state; at = q.at; line = line; there = subst (λ k. slice_get (code_at p k q.state) q.at ≡ Some line) of_kind there; is = refl } };
+        asks = subst (λ instr. AsksForCall instr call) (sym is_spawn) same;
+        class = ap (class_wanted p) is_spawn ∙ ap (λ k. Some (kind_class p k)) (sym same);
+        again = λ retries none. no_retry line.instr none retries;
+      }
+  is_asked t n _ q _ _ runs (Asks.gathers line to members there e) =
+      let (priority, retry, is_all) = shape_of c line.instr q (Gathers to members) e in
+      let (made, behind, is_made, of_kind) = frames.of_call t q runs.has in
+      let seat = (running_stands p r run.numbers (tasks_of p r frames) t n (OfKind q) runs).seat in
+      let names = gather_names p formed valid c r runs.row.after q seat line there to members e in
+      let as_many : length (tasks_named q members) ≡ length members = sym (map_length Some (tasks_named q members)) ∙ sym (ap length names) ∙ map_length _ members in
+      record {
+        instr = line.instr;
+        has = record { call = made; waits = behind; is_call = is_made; in_kind = record { state = q.state; at = q.at; line = line; there = subst (λ k. slice_get (code_at p k q.state) q.at ≡ Some line) of_kind there; is = refl } };
+        asks = subst (λ instr. AsksForMembers instr (tasks_named q members)) (sym is_all) as_many;
+        class = ap (class_wanted p) is_all ∙ ap (λ n. Some (members_class n)) (sym as_many);
+        again = λ retries none. no_retry line.instr none retries;
+      }
+
+-- the evidence of before, or that of a null answer, is of a refused block
+noted : (p : Program) (units : ℕ) (r s : Run) (class : ℕ) → ((e : Evidence) → r.evidence ≡ Some e → IsRefused p s.calls s.roots s.journal.tasks e.class) → IsRefused p s.calls s.roots s.journal.tasks class
+    → (e : Evidence) → evidence_or r.evidence units r class ≡ Some e → IsRefused p s.calls s.roots s.journal.tasks e.class
+noted p units r s class before here e is_e = by r.evidence refl is_e
+  where
+    by : (o : Option Evidence) → r.evidence ≡ o → evidence_or o units r class ≡ Some e → IsRefused p s.calls s.roots s.journal.tasks e.class
+    by None was f = subst (λ (x : Evidence). IsRefused p s.calls s.roots s.journal.tasks x.class) (same_Some (record { class = class; words = words_of (pool_of units r) }) e f) here
+    by (Some first) was f = before e (was ∙ f)
+
+module _ (p : Program) (formed : IsWellFormed p) (valid : IsValid p) (c : Columns) (limit units : ℕ) where
+  module _ (r : Run) (run : RunStands p limit r) (frames : FramesStand p r) (made : MadeStands p r) where
+    -- a task that a running task asks for was made by it
+    spawned_made : (t n to : ℕ) (q : FrameOf ℕ) (request : Request) (retry : Bool) → RunsAt r t n (OfKind q) → Asks p c q request to retry
+        → IsMadeNow p (with_accepted r.journal None request.after) (r.calls ++ request.call ∷ []) r.roots (next_number r.journal)
+    spawned_made t n to q request retry runs asks =
+        let asked = is_asked p formed valid c limit r run frames t n to q request retry runs asks in
+        let within = running_within r [] run.numbers t n (OfKind q) runs in
+        let live = running_number r [] run.numbers t n (OfKind q) runs in
+        let of_number = number_within r.journal.rows n runs.row runs.there in
+        record {
+          not_named = λ named. omega (arith, (task_within r.journal.rows (next_number r.journal) (run.numbers.names.in_roots named.0 (next_number r.journal) named.1)).1);
+          number = n;
+          maker = record {
+            row = runs.row;
+            there = snoc_old r.journal.rows row n runs.row runs.there;
+            instr = asked.instr;
+            has = subst (λ k. HasInstr p (r.calls ++ request.call ∷ []) k asked.instr) (sym runs.of_task)
+                (record { call = asked.has.call; waits = asked.has.waits; is_call = snoc_old r.calls request.call t (OfCall asked.has.call asked.has.waits) asked.has.is_call; in_kind = asked.has.in_kind });
+            made = request.call;
+            is_made = subst (λ k. by_number (r.calls ++ request.call ∷ []) (suc k) ≡ Some request.call) run.numbers.beside.of_calls (snoc_new r.calls request.call);
+            asks = asked.asks;
+            drawn = omega (arith, of_number.1);
+            begun = started;
+            before = λ s e. absurd (none-some s (sym (ap start_in (snoc_new r.journal.rows row)) ∙ e));
+            next = next within live;
+          };
+          uncut = λ u after.
+              let (v, gave) = frames.runs_behind n u runs.row runs.running runs.there after in
+              (ap is_some (finish_snoc r.journal.tasks u) ∙ (run.numbers.live.has_outcome u).0 (ap is_some gave), cause_snoc r.journal.tasks u ∙ run.outcomes.gave u v gave);
+        }
+      where
+        row : ActivationRow
+        row = record { task = next_number r.journal; after = request.after; start = None }
+
+        started : IsSome runs.row.start
+        started =
+            let (other, there, some) = run.numbers.live.runs n runs.running in
+            subst (λ (x : ActivationRow). IsSome x.start) (same_row r.journal.rows n other runs.row there runs.there) some
+
+        next : (1 ≤ t) × (t ≤ length r.journal.rows) → IsLive r t n runs.row
+            → (m : ℕ) (other : ActivationRow) → by_number (r.journal.rows ++ row ∷ []) m ≡ Some other → other.task ≡ runs.row.task → n < m → next_number r.journal < m
+        next within live m other there same later =
+            ⊎_elim
+            (λ old. absurd (omega (arith, later, run.numbers.live.last t n m runs.row other live old (same ∙ runs.of_task))))
+            (λ new. absurd (omega (arith, within.1, sym (ap (λ (x : ActivationRow). x.task) new.1) ∙ same ∙ runs.of_task)))
+            (snoc_cases r.journal.rows row m other there)
+
+    -- what was refused before, is refused after
+    still_refused : (s : Run) → Goes r.journal s.journal r.calls s.calls r.roots s.roots → (e : Evidence) → r.evidence ≡ Some e → IsRefused p s.calls s.roots s.journal.tasks e.class
+    still_refused s goes e is_e = refused_stays p r.journal s.journal r.calls s.calls r.roots s.roots run.journal.journal goes run.outcomes.open_ e.class (made.refused e is_e)
+
+    -- the instruction at which a task asks is its still
+    has_still : (s : Run) → Goes r.journal s.journal r.calls s.calls r.roots s.roots → (t : ℕ) (instr : Instr) → HasInstr p r.calls t instr → HasInstr p s.calls t instr
+    has_still s goes t instr has = record { call = has.call; waits = has.waits; is_call = goes.calls_stay t (OfCall has.call has.waits) has.is_call; in_kind = has.in_kind }
+
+    -- beside a renewal a refused block is noted, if any is
+    renewed_refused : (s : Run) → Goes r.journal s.journal r.calls s.calls r.roots s.roots → (t n : ℕ) (body to : Body) (after : Option ℕ) (priority : Priority) (notes : Notes) → RunsAt r t n body
+        → Renews p c units r n body to after priority notes → ((after ≡ None) → ((m : ℕ) × (by_number s.calls m ≡ Some (Respawn t None))) ⊎ (cause_of s.journal.tasks t ≡ cause.Limit))
+        → (e : Evidence) → notes.evidence ≡ Some e → IsRefused p s.calls s.roots s.journal.tasks e.class
+    renewed_refused s goes t n _ _ _ _ _ runs (Renews.again q line target waits there f) on = still_refused s goes
+    renewed_refused s goes t n _ _ _ _ _ runs (Renews.retries q request to how none) on =
+        let asked = is_asked p formed valid c limit r run frames t n to q request true runs how in
+        noted p units r s request.class (still_refused s goes) (IsRefused.again t asked.instr (has_still s goes t asked.instr asked.has) asked.class (asked.again refl) (on refl))
+    renewed_refused s goes t n _ _ _ _ _ runs (Renews.behind members next u f) on = still_refused s goes
+
+    -- beside a refusal too
+    refused_refused : (s : Run) → Goes r.journal s.journal r.calls s.calls r.roots s.roots → (t n : ℕ) (body : Body) (tag : CutTag) (notes : Notes) → RunsAt r t n body → Refuses p c units r n body tag notes
+        → cause_of s.journal.tasks t ≡ cause_of_cut tag → (e : Evidence) → notes.evidence ≡ Some e → IsRefused p s.calls s.roots s.journal.tasks e.class
+    refused_refused s goes t n _ _ _ runs (Refuses.no_block q request to how none) why =
+        let asked = is_asked p formed valid c limit r run frames t n to q request false runs how in
+        noted p units r s request.class (still_refused s goes) (IsRefused.of_task t asked.instr (has_still s goes t asked.instr asked.has) asked.class why)
+    refused_refused s goes t n _ _ _ runs (Refuses.no_number q request to retry block how placed none) why = still_refused s goes
+    refused_refused s goes t n body _ _ runs (Refuses.no_renewal _ to after priority notes how none) why = renewed_refused s goes t n body to after priority notes runs how (λ _. inr why)
+
+  pub made_move : (r s : Run) → RunStands p limit r → FramesStand p r → MadeStands p r → Move p c units r s → MadeStands p s
+  made_move r s run frames made (Move.goes_on t n q next runs goes) = record { made = made.made; refused = made.refused }
+  made_move r _ run frames made (Move.spawned t n to q request retry block runs asks placed some) =
+      let s = with_body (accepts units r request block) t (OfKind (set_future q to (Some (next_number r.journal)))) in
+      let goes = draws_goes r.journal r.calls r.roots None request.after request.call (inl refl) in
+      arrives_made p s (next_number r.journal) request.after
+      (made_goes p limit r s run goes
+      (λ k task past. let next = (is_next r.journal None request.after k task past).0 in
+      inr (subst (λ m. IsMadeNow p (with_accepted r.journal None request.after) (r.calls ++ request.call ∷ []) r.roots m) (sym next) (spawned_made r run frames made t n to q request retry runs asks)))
+      (still_refused r run frames made s goes) made)
+  made_move r _ run frames made (Move.respawned t n body to after priority notes runs renews some) =
+      let s = with_body (record (draws (with_notes r notes) (Some t) after priority (Respawn t after) None None) { running = None }) t to in
+      let goes = draws_goes r.journal r.calls r.roots (Some t) after (Respawn t after) (inr (running_open r [] run.numbers t n body runs)) in
+      let drawn : by_number (r.calls ++ Respawn t after ∷ []) (suc (length r.calls)) ≡ Some (Respawn t after) = snoc_new r.calls (Respawn t after) in
+      arrives_made p s (next_number r.journal) after
+      (made_goes p limit r s run goes
+      (λ k task past. let is = is_next r.journal (Some t) after k task past in absurd (omega (arith, is.0, is.1, (running_within r [] run.numbers t n body runs).1)))
+      (renewed_refused r run frames made s goes t n body to after priority notes runs renews
+      (λ none. inl (suc (length r.calls), drawn ∙ ap (λ o. Some (Respawn t o)) none))) made)
+  made_move r s run frames made (Move.gave t n body v runs answers) =
+      let grows = move_grows p c limit units r s run (Move.gave t n body v runs answers) in
+      let goes = stays_goes r.journal s.journal r.calls r.roots grows (finished_was r.journal r.journal t cause.Clear (λ k row e. RowWas.stood e)) in
+      made_goes p limit r s run goes (λ k task past. absurd (none_past r.journal s.journal refl k task past)) (still_refused r run frames made s goes) made
+  made_move r s run frames made (Move.refused t n body tag notes runs refuses) =
+      let grows = move_grows p c limit units r s run (Move.refused t n body tag notes runs refuses) in
+      let goes = stays_goes r.journal s.journal r.calls r.roots grows (finished_was r.journal r.journal t (cause_of_cut tag) (λ k row e. RowWas.stood e)) in
+      let within = running_within r [] run.numbers t n body runs in
+      let why = cause_here r.journal.tasks t (r.journal.stamps + 1) (cause_of_cut tag) within.0 (omega (arith, within.1, run.numbers.beside.of_tasks)) t refl in
+      made_goes p limit r s run goes (λ k task past. absurd (none_past r.journal s.journal refl k task past)) (refused_refused r run frames made s goes t n body tag notes runs refuses why) made
+  made_move r s run frames made (Move.started n left idle next uncut) =
+      let grows = move_grows p c limit units r s run (Move.started n left idle next uncut) in
+      let (first, there, waits) = next_row r [] n left run.numbers next in
+      let many = as_many_begun r.journal n in
+      let goes = stays_goes r.journal s.journal r.calls r.roots grows (begun_was r.journal n first there waits many) in
+      made_goes p limit r s run goes (λ k task past. absurd (none_past r.journal s.journal many k task past)) (still_refused r run frames made s goes) made
+  made_move r s run frames made (Move.cut_at_start n left row u tag idle next is_row after cut) =
+      let grows = move_grows p c limit units r s run (Move.cut_at_start n left row u tag idle next is_row after cut) in
+      let (first, there, waits) = next_row r [] n left run.numbers next in
+      let many = as_many_begun r.journal n in
+      let goes = stays_goes r.journal s.journal r.calls r.roots grows (finished_was r.journal (with_begun r.journal n) row.task (cause.By u) (begun_was r.journal n first there waits many)) in
+      made_goes p limit r s run goes (λ k task past. absurd (none_past r.journal s.journal many k task past)) (still_refused r run frames made s goes) made
+
+pub made_first : (p : Program) (plan : RunPlan) → MadeStands p (at_first plan)
+made_first p plan = record {
+  made = λ t task. absurd (none-some task.0 (sym (none_of_empty t) ∙ task.1));
+  refused = λ e is_e. absurd (none-some e is_e);
+}
+
+pub made_root : (p : Program) (limit units : ℕ) (r s : Run) (root : RootLine) → IsNextRoot p r root → RunStands p limit r → MadeStands p r → RootMove p units r root s → MadeStands p s
+made_root p limit units r _ root next run made (RootMove.named block free placed some) =
+    let request = root_request p r root in
+    let word = Named (next_number r.journal) in
+    let s = with_root (accepts units r request block) word in
+    let goes = root_goes p limit r run word past (with_accepted r.journal None request.after) (r.calls ++ request.call ∷ []) (draws_goes r.journal r.calls r.roots None request.after request.call (inl refl)) in
+    arrives_made p s (next_number r.journal) request.after
+    (made_goes p limit r s run goes
+    (λ k task over. inl (length r.roots, subst (λ m. slice_get (r.roots ++ word ∷ []) (length r.roots) ≡ Some (Named m)) (sym (is_next r.journal None request.after k task over).0) (get_last r.roots word)))
+    (λ e is_e. refused_stays p r.journal s.journal r.calls s.calls r.roots s.roots run.journal.journal goes run.outcomes.open_ e.class (made.refused e is_e)) made)
+  where
+    past : (t : ℕ) → Named (next_number r.journal) ≡ Named t → length r.journal.rows < t
+    past t e = let same : next_number r.journal ≡ t = cc in omega (arith, same)
+made_root p limit units r _ root next run made (RootMove.refused tag notes free how) = by tag notes how
+  where
+    past : (tag : CutTag) (t : ℕ) → Refused tag ≡ Named t → length r.journal.rows < t
+    past tag t e = cc
+
+    goes_so : (tag : CutTag) → Goes r.journal r.journal r.calls r.calls r.roots (r.roots ++ Refused tag ∷ [])
+    goes_so tag = root_goes p limit r run (Refused tag) (past tag) r.journal r.calls (stays_goes r.journal r.journal r.calls r.roots (grows_same r.journal) (λ k row e. RowWas.stood e))
+
+    still : (tag : CutTag) (e : Evidence) → r.evidence ≡ Some e → IsRefused p r.calls (r.roots ++ Refused tag ∷ []) r.journal.tasks e.class
+    still tag e is_e = refused_stays p r.journal r.journal r.calls r.calls r.roots (r.roots ++ Refused tag ∷ []) run.journal.journal (goes_so tag) run.outcomes.open_ e.class (made.refused e is_e)
+
+    with_evidence : (tag : CutTag) (notes : Notes) → ((e : Evidence) → notes.evidence ≡ Some e → IsRefused p r.calls (r.roots ++ Refused tag ∷ []) r.journal.tasks e.class) → MadeStands p (with_root (with_notes r notes) (Refused tag))
+    with_evidence tag notes refused =
+        made_goes p limit r (with_root (with_notes r notes) (Refused tag)) run (goes_so tag) (λ k task over. absurd (none_past r.journal r.journal refl k task over)) refused made
+
+    by : (tag : CutTag) (notes : Notes) → RefusesRoot p units r root tag notes → MadeStands p (with_root (with_notes r notes) (Refused tag))
+    by _ notes (RefusesRoot.no_block none) =
+        with_evidence Null notes (noted p units r (with_root r (Refused Null)) (kind_class p root.kind) (still Null) (IsRefused.of_root (length r.roots) root next.there (get_last r.roots (Refused Null)) refl))
+    by tag notes (RefusesRoot.no_number block placed none) = with_evidence tag notes (still tag)
+made_root p limit units r _ root next run made (RootMove.skipped first e) =
+    let word = Skipped first.0 first.1 in
+    let goes = root_goes p limit r run word (past first.0 first.1) r.journal r.calls (stays_goes r.journal r.journal r.calls r.roots (grows_same r.journal) (λ k row e. RowWas.stood e)) in
+    made_goes p limit r (with_root r word) run goes (λ k task over. absurd (none_past r.journal r.journal refl k task over))
+    (λ f is_f. refused_stays p r.journal r.journal r.calls r.calls r.roots (r.roots ++ word ∷ []) run.journal.journal goes run.outcomes.open_ f.class (made.refused f is_f)) made
+  where
+    past : (at : ℕ) (tag : CutTag) (t : ℕ) → Skipped at tag ≡ Named t → length r.journal.rows < t
+    past at tag t h = cc
