@@ -7,7 +7,7 @@
 ghost use Rattle.std.specs.Prelude.{◌<◌, length};
 ghost use Rattle.frame_code.specs.Frames.{IsFrame};
 
-use frame_code::{CheckedCode, Frame, advance, at_entry, has_sort, set_number};
+use frame_code::{CheckedCode, Frame, Requests, advance, at_entry, has_sort, set_number};
 use std::alloc::{Alloc, Global};
 use std::env::Env;
 use std::time::CpuClock;
@@ -80,10 +80,11 @@ fn advance_all(
 ) -> u64
     requires { 0 < length checked.now.kinds }
 {
+    let mut requests = Requests::new();
     let mut sum = 0u64;
     for _round in 0..rounds {
         enter(checked, frame, number);
-        let _act = advance(checked, columns, frame);
+        let _asked = advance(checked, columns, frame, &mut requests);
         sum = sum.wrapping_add(last_word(frame));
     }
     sum

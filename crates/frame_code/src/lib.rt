@@ -1,10 +1,11 @@
 //! The frames of tasks as words, and what a task does next.
 //!
 //! `specs/Words.antt` says what the words of a frame say, `specs/Frames.antt` which words are a
-//! frame of a program, `specs/Stops.antt` where a task stops and what it asks for, and
-//! `specs/Moves.antt` how it goes on. `specs/Meant.antt` ties both to the meaning and to the rules
-//! of the checker. `specs/Units.antt` says which units a frame names and gives up, and
-//! `specs/Entries.antt` what is passed to a new task, and its first frame.
+//! frame of a program, `specs/Stops.antt` where a task stops and what it asks for,
+//! `specs/Told.antt` how that is told, and `specs/Moves.antt` how it goes on. `specs/Meant.antt`
+//! ties both to the meaning and to the rules of the checker. `specs/Units.antt` says which units a
+//! frame names and gives up, and `specs/Entries.antt` what is passed to a new task, and its first
+//! frame.
 #![tactic(auto)]
 
 mod act;
@@ -25,7 +26,7 @@ mod set_variables;
 mod size;
 mod words;
 
-pub use act::{Act, AllRequest, RespawnRequest, SpawnRequest};
+pub use act::{Act, AllRequest, Asked, Requests, RespawnRequest, SpawnRequest};
 pub use code::CheckedCode;
 pub use entries::{Passed, entry_frame, members_frame, passed_by};
 pub use few::Few;

@@ -8,8 +8,10 @@ ghost use Rattle.frame_code.specs.Members.{member_act};
 ghost use Rattle.frame_code.specs.Meant.{AreHeld};
 ghost use Rattle.frame_code.specs.Calls.{Advances, Means, Allows, NamesStay, KeepsWay};
 ghost use Rattle.frame_code.specs.Run.{IsRun};
+ghost use Rattle.frame_code.specs.Told.{act_told};
+ghost use Rattle.frame_code.specs.declared.act.Requests.{Requests as RequestsState};
 
-use crate::act::{Act, RespawnRequest};
+use crate::act::{Asked, Requests, RespawnRequest};
 use crate::code::CheckedCode;
 use crate::line::{Step, carry_out};
 use crate::lookup::{kind_at, line_at, state_at};
@@ -18,10 +20,15 @@ use crate::words::{AGGREGATE, Control, Frame, stand};
 use task_syntax::{Columns, Priority};
 
 /// Runs a task to the first line where it stops.
-fn run(checked: &CheckedCode, columns: &Columns, words: &mut [u64]) -> Act
+fn run(
+    checked: &CheckedCode,
+    columns: &Columns,
+    words: &mut [u64],
+    requests: &mut Requests,
+) -> Asked
     requires frame { IsFrame checked.now words.old }
     requires task { is_aggregate (slice_index words.old 0) ≡ false }
-    ensures run { IsRun checked.now columns.now words.old result words.new }
+    ensures run { IsRun checked.now columns.now words.old (act_told result requests.new) words.new }
     ensures formed { IsWellFormed checked.now }
     ensures valid { IsValid checked.now }
 {
@@ -36,10 +43,10 @@ fn run(checked: &CheckedCode, columns: &Columns, words: &mut [u64]) -> Act
             Step::Goes(next) => at = next,
             Step::Traps(trap) => {
                 stand(words, control.state, at);
-                return Act::Trap(trap);
+                return Asked::Trap(trap);
             }
             Step::Asks => {
-                let asked = request(kind, &line.instr, places, words);
+                let asked = request(kind, &line.instr, places, words, requests);
                 stand(words, control.state, at);
                 return asked;
             }
@@ -49,31 +56,41 @@ fn run(checked: &CheckedCode, columns: &Columns, words: &mut [u64]) -> Act
 
 /// What an aggregate asks for: another activation behind its next member, or, where all were
 /// waited for, to be done with 0.
-fn next_activation(members: u16, next: u16) -> Act
-    ensures waits { next < members → (member : ℕ) → member_act (Some member) next ≡ result }
-    ensures done { members ≤ next → member_act None next ≡ result }
+fn next_activation(members: u16, next: u16) -> Asked
+    ensures waits { next < members → (member : ℕ) (requests : RequestsState)
+        → member_act (Some member) next ≡ act_told result requests }
+    ensures done { members ≤ next → (requests : RequestsState)
+        → member_act None next ≡ act_told result requests }
 {
     if next < members {
-        Act::Again(RespawnRequest {
+        Asked::Again(RespawnRequest {
             target: 0,
             behind: Some(next),
             priority: Priority::Regular,
         })
     } else {
-        Act::Done(0)
+        Asked::Done(0)
     }
 }
 
 /// Runs a task from where its frame stands to the first line where it cannot go on by itself, and
 /// tells what it asks for there. The frame then stands at that line. An aggregate's frame stays as
 /// it is.
-pub fn advance(checked: &CheckedCode, columns: &Columns, frame: &mut Frame) -> Act
+pub fn advance(
+    checked: &CheckedCode,
+    columns: &Columns,
+    frame: &mut Frame,
+    requests: &mut Requests,
+) -> Asked
     requires { IsFrame checked.now frame.old.items }
     ensures frame { IsFrame checked.now frame.new.items }
-    ensures acts { Advances checked.now columns.now frame.old.items result frame.new.items }
-    ensures meaning { Means checked.now columns.now frame.old.items result frame.new.items }
-    ensures held { AreHeld checked.now result (body_of checked.now frame.new.items) }
-    ensures next { Allows checked.now result frame.new.items }
+    ensures acts { Advances checked.now columns.now frame.old.items (act_told result requests.new)
+        frame.new.items }
+    ensures meaning { Means checked.now columns.now frame.old.items (act_told result requests.new)
+        frame.new.items }
+    ensures held { AreHeld checked.now (act_told result requests.new)
+        (body_of checked.now frame.new.items) }
+    ensures next { Allows checked.now (act_told result requests.new) frame.new.items }
     ensures names { NamesStay checked.now frame.old.items frame.new.items }
     ensures way { KeepsWay checked.now frame.old.items frame.new.items }
 {
@@ -82,6 +99,6 @@ pub fn advance(checked: &CheckedCode, columns: &Columns, frame: &mut Frame) -> A
     if control.kind == AGGREGATE {
         next_activation(control.state, control.at)
     } else {
-        run(checked, columns, words)
+        run(checked, columns, words, requests)
     }
 }

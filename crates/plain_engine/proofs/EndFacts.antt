@@ -15,7 +15,7 @@ use Rattle.record_core.specs.EndSound.{EndComplete, EndSound}
 use Rattle.run_model.specs.State.{Run}
 use Rattle.run_model.specs.End.{EndsAs, OneThreadRun, end_seen}
 use Rattle.run_model.proofs.RootValues.{ends_sound}
-use Rattle.run_model.proofs.EndLaws.{ends_faithful_all}
+use Rattle.run_model.proofs.FaithfulEnds.{ends_faithful}
 use Rattle.run_model.proofs.CountsEnd.{ends_complete}
 use Rattle.plain_state.specs.declared.record.RootState.{RootState}
 use Rattle.plain_state.specs.declared.record.RootState.TheVariants as root
@@ -74,7 +74,7 @@ module _ (p : Program) (c : Columns) (plan : RunPlan) (may : MayRun p plan) (e :
   end_sound = subst (EndSound p c plan) (sym seen) (ends_sound p c plan end.run may.formed may.valid may.geometry is_over)
 
   pub end_faithful : EndFaithful p answer
-  end_faithful = subst (EndFaithful p) (sym seen) (ends_faithful_all p c plan end.run may.formed is_over)
+  end_faithful = subst (EndFaithful p) (sym seen) (ends_faithful p c plan end.run may.formed may.valid may.geometry is_over)
 
   pub end_complete : EndComplete p c plan answer
   end_complete = subst (EndComplete p c plan) (sym seen) (ends_complete p c plan end.run may.formed may.valid may.geometry is_over)

@@ -4,6 +4,7 @@ ghost use Rattle.frame_code.specs.Words.{body_of};
 ghost use Rattle.frame_code.specs.Frames.{IsFrame};
 ghost use Rattle.frame_code.specs.Moves.{MayPass};
 ghost use Rattle.frame_code.specs.Setting.{HasSort};
+ghost use Rattle.frame_code.specs.Told.{act_told};
 ghost use Rattle.frame_code.specs.declared.act.Act.TheVariants as act;
 ghost use Rattle.plain_engine.specs.Ending.{EndsRefused, MayBeRefused};
 ghost use Rattle.plain_engine.specs.Going.{CarriesOut, MayCarryOut, MayCarryOutAny};
@@ -16,8 +17,8 @@ use crate::ask::Answer;
 use crate::desk::Desk;
 use crate::engine::Engine;
 use frame_code::{
-    Act, AllRequest, CheckedCode, Frame, SpawnRequest, class_of, entry_frame, future, give, lift,
-    members_class, members_frame, pass_on, passed_by, units_named,
+    AllRequest, Asked, CheckedCode, Frame, Requests, SpawnRequest, class_of, entry_frame, future,
+    give, lift, members_class, members_frame, pass_on, passed_by, units_named,
 };
 use plain_state::Outcome;
 use record_core::CutTag;
@@ -53,35 +54,37 @@ impl Engine {
         unit: u32,
         frame: &mut Frame,
         desk: &mut Desk,
-        act: &Act,
+        requests: &Requests,
+        asked: Asked,
     ) -> bool
-        requires { MayCarryOut checked.now self.old unit frame.old.items act.now }
-        ensures steps { CarriesOut checked.now self.old unit frame.old.items act.now result self.new
-            frame.new.items }
+        requires { MayCarryOut checked.now self.old unit frame.old.items
+            (act_told asked requests.now) }
+        ensures steps { CarriesOut checked.now self.old unit frame.old.items
+            (act_told asked requests.now) result self.new frame.new.items }
         ensures fewer { TakesLine checked.now result frame.old.items frame.new.items }
     {
-        match act {
-            Act::Spawn(request) => self.spawn(checked, unit, frame, desk, request),
-            Act::All(request) => self.gather(checked, unit, frame, desk, request),
-            Act::Copy { to, of } => {
-                self.copy(checked, frame, *to, *of);
+        match asked {
+            Asked::Spawn => self.spawn(checked, unit, frame, desk, &requests.spawn),
+            Asked::All => self.gather(checked, unit, frame, desk, &requests.all),
+            Asked::Copy { to, of } => {
+                self.copy(checked, frame, to, of);
                 true
             }
-            Act::Drop { future } => {
-                self.drop_future(checked, frame, *future);
+            Asked::Drop { future } => {
+                self.drop_future(checked, frame, future);
                 true
             }
-            Act::NeedsValue { future } => self.read(checked, unit, frame, *future),
-            Act::Again(request) => {
-                self.respawn(checked, unit, frame, desk, *request);
+            Asked::NeedsValue { future } => self.read(checked, unit, frame, future),
+            Asked::Again(request) => {
+                self.respawn(checked, unit, frame, desk, request);
                 false
             }
-            Act::Done(number) => {
-                self.gives(checked, unit, frame, Value::Number(*number));
+            Asked::Done(number) => {
+                self.gives(checked, unit, frame, Value::Number(number));
                 false
             }
-            Act::Trap(trap) => {
-                self.gives(checked, unit, frame, Value::Trapped(*trap));
+            Asked::Trap(trap) => {
+                self.gives(checked, unit, frame, Value::Trapped(trap));
                 false
             }
         }

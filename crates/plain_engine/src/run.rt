@@ -10,7 +10,7 @@ ghost use Rattle.plain_engine.specs.Roots.{AsksAll, MayAskAll};
 use crate::desk::Desk;
 use crate::end::PlainEnd;
 use crate::engine::Engine;
-use frame_code::{CheckedCode, Frame};
+use frame_code::{CheckedCode, Frame, Requests};
 use kt_words::Plan;
 use std::alloc::Global;
 use task_syntax::{Checked, Columns, Memory};
@@ -33,8 +33,9 @@ impl Engine {
     {
         let mut frame = Frame::new();
         let mut desk = Desk::new();
+        let mut requests = Requests::new();
         'turns: loop {
-            if !self.turn(checked, columns, &mut frame, &mut desk) {
+            if !self.turn(checked, columns, &mut frame, &mut desk, &mut requests) {
                 return;
             }
         }

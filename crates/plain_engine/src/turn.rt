@@ -8,20 +8,21 @@ ghost use Rattle.plain_engine.specs.Going.{TakesNext, TakesStart, Turns, started
 
 use crate::desk::Desk;
 use crate::engine::Engine;
-use frame_code::{CheckedCode, Frame, advance};
+use frame_code::{CheckedCode, Frame, Requests, advance};
 use plain_state::{Outcome, Record};
 use record_core::{Cause, CutTag};
 use task_syntax::Columns;
 
 impl Engine {
     /// Starts the next activation that may start, if there is one, and runs it to its end. What is
-    /// worked on stands in a frame and on a desk that are used again at each turn.
+    /// worked on stands in a frame, on a desk and in requests that are used again at each turn.
     pub fn turn(
         &mut self,
         checked: &CheckedCode,
         columns: &Columns,
         frame: &mut Frame,
         desk: &mut Desk,
+        requests: &mut Requests,
     ) -> bool
         requires { IsIdle checked.now columns.now self.old }
         ensures turns { Turns checked.now columns.now self.old result self.new }
@@ -34,7 +35,7 @@ impl Engine {
         self.frame(unit, frame);
         match record.cut {
             Some(tag) => self.cut(checked, unit, frame, record.number, tag),
-            None => self.run(checked, columns, unit, frame, desk),
+            None => self.run(checked, columns, unit, frame, desk, requests),
         }
         true
     }
@@ -85,13 +86,14 @@ impl Engine {
         unit: u32,
         frame: &mut Frame,
         desk: &mut Desk,
+        requests: &mut Requests,
     )
         requires { IsRunning checked.now columns.now self.old unit frame.old.items }
         ensures { RunsToItsEnd checked.now columns.now self.old unit frame.old.items self.new }
     {
         'acts: loop {
-            let act = advance(checked, columns, frame);
-            if !self.carry_out(checked, unit, frame, desk, &act) {
+            let asked = advance(checked, columns, frame, requests);
+            if !self.carry_out(checked, unit, frame, desk, requests, asked) {
                 return;
             }
         }

@@ -5,14 +5,20 @@ ghost use Rattle.plain_records.specs.Allocated.{HasFrame, with_written};
 use crate::store::Records;
 use frame_code::Frame;
 
-/// Reads so many of the words, from a place on, into a frame.
+/// Reads so many of the words, from a place on, into a frame. The frame that was read before often
+/// had as many words: then these are written over, and nothing is cleared.
 fn read_at(words: &[u64], at: usize, count: usize, frame: &mut Frame)
     requires within { at + count ≤ length words.now }
     requires few { count ≤ 64 }
     ensures { frame.new.items ≡ take count (drop at words.now) }
 {
-    frame.clear();
-    let _fits = frame.try_extend_from_slice(&words[at..at + count]);
+    let read = &words[at..at + count];
+    if frame.len() == count {
+        frame.as_mut_slice().copy_from_slice(read);
+    } else {
+        frame.clear();
+        let _fits = frame.try_extend_from_slice(read);
+    }
 }
 
 /// Writes words over those from a place on.

@@ -3,6 +3,7 @@ use Rattle.frame_code.specs.Control.{control_at}
 use Rattle.frame_code.specs.Words.{frame_at}
 use Rattle.frame_code.specs.Stops.{stop_at, GoesTo, stays}
 use Rattle.frame_code.specs.Line.{standing}
+use Rattle.frame_code.specs.Told.{act_told}
 use Rattle.frame_code.specs.declared.act.Act.TheVariants.{Trap}
 use Rattle.frame_code.specs.declared.words.Control.{Control}
 use Rattle.frame_code.proofs.ControlWords.{frame-line}
@@ -81,8 +82,8 @@ returns-in-Traps-clause-run c = run-here c.args.checked.now (slice_index c.args.
 
 pub returns-in-Asks-clause-run : goal.returns-in-Asks-clause-run
 returns-in-Asks-clause-run c = run-here c.args.checked.now (slice_index c.args.words.now 0) c.kind_at-kind.result.now c.state_at-state.result.now c.program.ensures.formed c.lines.invariant.of c.args.columns.now
-    c.args.words.now c.lines.words c.stand-in-Asks.new.words c.lines.at c.line_at-line.result.now c.request-asked.result c.requires.frame refl c.requires.task
+    c.args.words.now c.lines.words c.stand-in-Asks.new.words c.lines.at c.line_at-line.result.now (act_told c.request-asked.result c.request-asked.new.requests) c.requires.frame refl c.requires.task
     c.lines.auto.words c.lines.invariant.head (moved-there (slice_index c.args.words.now 0) c.unpack-control.result c.lines.at c.carry_out.new.words c.lines.words c.stand-in-Asks.new.words c.unpack-control.ensures c.in-Asks.ensures.step.1 c.stand-in-Asks.ensures)
     c.line_at-line.ensures c.lines.invariant.goes
-    (subst (λ ws. stop_at c.args.columns.now c.line_at-line.result.now.instr (standing c.kind_at-kind.result.now ws c.lines.at) ≡ Some c.request-asked.result)
+    (subst (λ ws. stop_at c.args.columns.now c.line_at-line.result.now.instr (standing c.kind_at-kind.result.now ws c.lines.at) ≡ Some (act_told c.request-asked.result c.request-asked.new.requests))
     c.in-Asks.ensures.step.1 (c.request-asked.ensures c.args.columns.now c.lines.at))

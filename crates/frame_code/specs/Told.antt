@@ -1,0 +1,17 @@
+-- How a call tells what a task asks for.
+use Rattle.frame_code.specs.declared.act.Act.{Act}
+use Rattle.frame_code.specs.declared.act.Act.TheVariants as act
+use Rattle.frame_code.specs.declared.act.Asked.{Asked}
+use Rattle.frame_code.specs.declared.act.Asked.TheVariants as asked
+use Rattle.frame_code.specs.declared.act.Requests.{Requests}
+
+-- What is asked for at a spawn and at an aggregate stands in the requests.
+abbrev pub act_told : Asked → Requests → Act
+act_told asked.Spawn r = act.Spawn r.spawn
+act_told asked.All r = act.All r.all
+act_told (asked.Copy to source) r = act.Copy to source
+act_told (asked.Drop future) r = act.Drop future
+act_told (asked.NeedsValue future) r = act.NeedsValue future
+act_told (asked.Again request) r = act.Again request
+act_told (asked.Done number) r = act.Done number
+act_told (asked.Trap trap) r = act.Trap trap
