@@ -3,9 +3,9 @@ ghost use Rattle.task_syntax.specs.Places.{Each};
 ghost use Rattle.frame_code.specs.Frames.{IsFrame};
 
 use frame_code::{
-    Act, CheckedCode, Few, Frame, advance, assign, at_entry, class_of, enter_held, has_sort,
-    is_aggregate, member, members_class, members_frame, naming_words, pass_on, set_number,
-    units_named, words_of,
+    Asked, CheckedCode, Few, Frame, Passed, Requests, SpawnRequest, advance, assign, at_entry,
+    class_of, enter_held, entry_frame, has_sort, is_aggregate, member, members_class,
+    members_frame, naming_words, pass_on, passed_by, set_number, units_named, words_of,
 };
 use std::alloc::{AllocError, Global};
 use std::test::Fail;
@@ -62,14 +62,16 @@ fn go_past_spawn(checked: &CheckedCode, columns: &Columns, frame: &mut Frame, un
     requires unit { unit + 1 < 2 ^ 64 }
     ensures { IsFrame checked.now frame.new.items }
 {
-    let Act::Spawn(request) = advance(checked, columns, frame) else {
+    let mut requests = Requests::new();
+    let Asked::Spawn = advance(checked, columns, frame, &mut requests) else {
         return false;
     };
+    let to = requests.spawn.to;
     pass_on(checked, frame);
-    if !has_sort(checked, frame, Sort::Future, request.to) {
+    if !has_sort(checked, frame, Sort::Future, to) {
         return false;
     }
-    let _none = assign(checked, frame, request.to, unit);
+    let _none = assign(checked, frame, to, unit);
     true
 }
 
@@ -83,7 +85,8 @@ fn respawn(
     requires { IsFrame checked.now frame.old.items }
     ensures { IsFrame checked.now frame.new.items }
 {
-    let Act::Again(request) = advance(checked, columns, frame) else {
+    let mut requests = Requests::new();
+    let Asked::Again(request) = advance(checked, columns, frame, &mut requests) else {
         return false;
     };
     enter_held(checked, frame, request.target, given_up);
@@ -108,6 +111,51 @@ fn pair(checked: &CheckedCode, frame: &mut Frame, first: u64, second: u64) -> u6
 {
     members_frame([first, second].as_slice(), frame);
     member(frame, 1)
+}
+
+/// What a request passes; none where it passes anything but one number, or its kind takes something
+/// else.
+fn number_passed(
+    checked: &CheckedCode,
+    frame: &Frame,
+    request: &SpawnRequest,
+) -> Option<Few<Passed, 16>>
+    requires { IsFrame checked.now frame.now.items }
+{
+    let kinds = checked.program().kinds.as_slice();
+    if is_aggregate(frame) || kinds.len() <= request.kind as usize {
+        return None;
+    }
+    let kind = &kinds[request.kind as usize];
+    let variables = kind.variables.as_slice();
+    if kind.arguments != 1 || variables.len() < 1 || variables[0].sort != Sort::Number {
+        return None;
+    }
+    if request.numbers.as_slice().len() != 1 || request.futures.as_slice().len() != 0 {
+        return None;
+    }
+    let mut passed = Few::new();
+    passed_by(checked, frame, request, &mut passed);
+    Some(passed)
+}
+
+/// The first frame of a task of a kind to which one number is passed; none where something else is
+/// passed, or the kind takes something else.
+fn entered_with(checked: &CheckedCode, kind: u16, passed: &[Passed]) -> Option<Frame> {
+    let kinds = checked.program().kinds.as_slice();
+    if kinds.len() <= kind as usize || passed.len() != 1 {
+        return None;
+    }
+    let variables = kinds[kind as usize].variables.as_slice();
+    if variables.len() < 1 || variables[0].sort != Sort::Number {
+        return None;
+    }
+    let Passed::Number(_) = passed[0] else {
+        return None;
+    };
+    let mut first = Frame::new();
+    entry_frame(checked, kind, passed, &mut first);
+    Some(first)
 }
 
 #[test]
@@ -169,5 +217,22 @@ fn blocks_are_told_by_their_words(rt: HostRuntime) -> Result<(), Fail> {
     assert_eq!(rt; class_of(&code, 1), 0);
     assert_eq!(rt; members_class(7), 0);
     assert_eq!(rt; members_class(8), 1);
+    Ok(())
+}
+
+#[test]
+fn a_new_task_begins_with_what_is_passed(rt: HostRuntime) -> Result<(), Fail> {
+    let checked = program(rt.alloc())?.ok_or("no program")?;
+    let code = CheckedCode::new(rt.alloc(), &checked)?;
+    let columns = Columns::none(rt.alloc());
+    let mut frame = top(&code, 4).ok_or("no kind")?;
+    let mut requests = Requests::new();
+    let Asked::Spawn = advance(&code, &columns, &mut frame, &mut requests) else {
+        return Err(Fail::new("no spawn"));
+    };
+    let passed = number_passed(&code, &frame, &requests.spawn).ok_or("no number")?;
+    assert_eq!(rt; passed.as_slice(), [Passed::Number(5)].as_slice());
+    let first = entered_with(&code, requests.spawn.kind, passed.as_slice()).ok_or("no frame")?;
+    assert_eq!(rt; first.as_slice(), [0, 5].as_slice());
     Ok(())
 }
