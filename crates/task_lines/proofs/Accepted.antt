@@ -1,13 +1,6 @@
 -- What the rows of a text spell is read from it.
-use Rattle.std.proofs.Common.{◌≡◌, ℕ, Bool, false, cond, List, [], ◌∷◌, length, Result, Ok, Err, refl, sym, ◌∙◌, ap, subst}
-use Rattle.std.specs.Prelude.{codes}
-use Rattle.task_syntax.specs.Names.{same_bytes}
-use Rattle.task_text.specs.declared.fault.Cause.TheVariants.{NoHeader, NoEnd}
-use Rattle.task_text.specs.declared.fault.Fault.{Fault}
-use Rattle.task_text.specs.Fault.{fault_at, ◌>>=◌}
-use Rattle.task_text.specs.Text.{Row, lines_of, without_mark, rows_of}
-use Rattle.task_text.specs.Scan.{Scan, start_of, Parser, ◌>>◌, pure, need, take_word, check_text, whole}
-use Rattle.task_text.proofs.Answering.{Answers, pure-answers, need-answers, taken-answers, seen-is, whole-answers}
+use Rattle.task_lines.proofs.Vocabulary.{◌≡◌, ℕ, Bool, false, cond, List, [], ◌∷◌, length, Result, Ok, Err, refl, sym, ◌∙◌, ap, subst, codes, same_bytes, NoHeader, NoEnd, Fault, fault_at, Row, lines_of, without_mark, rows_of, Scan, start_of, Parser, ◌>>◌, pure, need, take_word, check_text, whole, Answers, pure-answers, need-answers, taken-answers, seen-is, whole-answers}
+use Rattle.task_text.specs.Fault.{◌>>=◌}
 use Rattle.task_lines.specs.declared.item.What.{What}
 use Rattle.task_lines.specs.declared.item.What.TheVariants as what
 use Rattle.task_lines.specs.declared.item.Item.{Item}
@@ -16,7 +9,7 @@ use Rattle.task_lines.specs.declared.scope.Place.TheVariants.{Outside, Head, End
 use Rattle.task_lines.specs.declared.scope.Scope.{Scope}
 use Rattle.task_lines.specs.Scope.{first_scope, after}
 use Rattle.task_lines.specs.Line.{header_line}
-use Rattle.task_lines.specs.Steps.{read_line}
+use Rattle.task_lines.specs.Table.{read_line}
 use Rattle.task_lines.specs.Reading.{is_open_state, is_cut_short, line_of, items_from, rows_behind_header, items_of}
 use Rattle.task_lines.specs.Grammar.{Spells, MayBegin, MayStand, RowsSpellFrom, RowsSpell}
 use Rattle.task_lines.proofs.AcceptedText.{text-checked, spelled-text}
@@ -37,7 +30,7 @@ not-cut scope (what.State name holds settled) may = no-open-state scope.place ma
 not-cut scope what.End may = ap (λ p. is_cut_short p what.End) may
 not-cut scope w may = refl
 
-row-accepted : (scope : Scope) (row : Row) (w : What) → Spells row.words w → MayStand scope w → line_of scope row ≡ Ok w
+pub row-accepted : (scope : Scope) (row : Row) (w : What) → Spells row.words w → MayStand scope w → line_of scope row ≡ Ok w
 unfolding line_of
 row-accepted scope row w spells may =
     goes-on (check_text row) _ tt w (text-checked row.words (spelled-text row.words w spells) row.line 1)
@@ -76,14 +69,16 @@ header-answers s e =
     (λ t e. need-answers (same_bytes (codes "1")) NoHeader (take_word >> pure tt) t tt [] (ap (λ w. same_bytes (codes "1") w) (seen-is t (codes "1") [] e))
     (taken-answers (pure tt) t (codes "1") [] [] tt e (λ u e. pure-answers u tt [] e))))
 
-text-accepted : (last : ℕ) (rows : List Row) (items : List Item) → RowsSpell rows items → (rows_behind_header rows >>= λ (behind : List Row). items_from last first_scope behind) ≡ Ok items
+pub header-accepted : (header : Row) (rows : List Row) → header.words ≡ codes "ktask" ∷ codes "1" ∷ [] → rows_behind_header (header ∷ rows) ≡ Ok rows
 unfolding rows_behind_header
+header-accepted header rows words =
+    goes-on (check_text header) _ tt rows (subst (λ ws. check_text (record { line = header.line; words = ws }) ≡ Ok tt) (sym words) (text-checked (codes "ktask" ∷ codes "1" ∷ []) (refl, (refl, tt)) header.line 1))
+    (goes-on (whole header_line header) _ tt rows (whole-answers header_line header tt (header-answers (start_of header) words)) refl)
+
+text-accepted : (last : ℕ) (rows : List Row) (items : List Item) → RowsSpell rows items → (rows_behind_header rows >>= λ (behind : List Row). items_from last first_scope behind) ≡ Ok items
 text-accepted last [] items h = absurd h
 text-accepted last (row ∷ rows) items h =
-    goes-on (rows_behind_header (row ∷ rows)) (λ behind. items_from last first_scope behind) rows items
-    (goes-on (check_text row) _ tt rows (subst (λ ws. check_text (record { line = row.line; words = ws }) ≡ Ok tt) (sym h.0) (text-checked (codes "ktask" ∷ codes "1" ∷ []) (refl, (refl, tt)) row.line 1))
-    (goes-on (whole header_line row) _ tt rows (whole-answers header_line row tt (header-answers (start_of row) h.0)) refl))
-    (rows-accepted last rows first_scope items h.1)
+    goes-on (rows_behind_header (row ∷ rows)) (λ behind. items_from last first_scope behind) rows items (header-accepted row rows h.0) (rows-accepted last rows first_scope items h.1)
 
 -- what the rows of a text spell is what is read from it
 pub items_of-accepted : (text : List ℕ) (items : List Item) → RowsSpell (rows_of text) items → items_of text ≡ Ok items

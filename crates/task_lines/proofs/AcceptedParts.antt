@@ -1,23 +1,7 @@
 -- The parts of lines are read from the words that spell them.
-use Rattle.std.proofs.Common.{◌≡◌, ℕ, zero, suc, ◌<◌, ◌≤◌, Bool, true, false, not, ◌&&◌, ◌||◌, cond, nat_eq, nat_le, Some, List, [], ◌∷◌, ◌++◌, length, drop, slice_get, refl, sym, ◌∙◌, ap, subst, inl, inr, arith}
-use Rattle.std.specs.Prelude.{nat_lt, ◌^◌}
-use Rattle.std.specs.List.{list_any, list_all}
-use Rattle.std.specs.Str.Parse.{digits_value}
-use Rattle.std.proofs.lemmas.Bool.{leb-true, eqb-true}
-use Rattle.std.proofs.lemmas.Option.{slice_get_within}
-use Rattle.std.proofs.lemmas.List.{append_assoc, length-append}
-use Rattle.task_syntax.specs.Names.{same_bytes, is_between, is_letter, is_digit, is_name_byte, is_reserved, begins_with_letter, is_name, IsName}
-use Rattle.task_syntax.specs.Places.{AllDiffer}
-use Rattle.task_syntax.specs.declared.program.Sort.{Sort}
+use Rattle.task_lines.proofs.Vocabulary.{◌≡◌, ℕ, zero, suc, ◌<◌, ◌≤◌, Bool, true, false, not, ◌&&◌, ◌||◌, cond, nat_eq, nat_le, Some, List, [], ◌∷◌, ◌++◌, length, drop, slice_get, refl, sym, ◌∙◌, ap, subst, inl, inr, arith, nat_lt, ◌^◌, list_any, list_all, digits_value, leb-true, eqb-true, slice_get_within, length-append, same_bytes, is_between, is_letter, is_digit, is_name_byte, is_reserved, begins_with_letter, is_name, IsName, AllDiffer, Sort, Variable, both, either, or_right, get-front, BadName, BadNumber, TwiceNamed, Word, is_present, begins_with_digit, is_number, is_future, is_operand, is_no_bad_number, is_among, Scan, ◌>>◌, ◌<$>◌, take_word, need, room, same-word, Answers, need-answers, room-answers, take-answers, seen-is, ItemAnswers}
+use Rattle.std.proofs.lemmas.List.{append_assoc}
 use Rattle.task_syntax.specs.declared.program.Sort.TheVariants as sort
-use Rattle.task_syntax.specs.declared.program.Variable.{Variable}
-use Rattle.task_syntax.proofs.Bools.{both, either, or_right}
-use Rattle.task_syntax.proofs.Differ.{get-front}
-use Rattle.task_text.specs.declared.fault.Cause.TheVariants.{BadName, BadNumber, TwiceNamed}
-use Rattle.task_text.specs.Text.{Word}
-use Rattle.task_text.specs.Scan.{is_present, begins_with_digit, is_number, is_future, is_operand, is_no_bad_number, is_among, Scan, ◌>>◌, ◌<$>◌, take_word, need, room}
-use Rattle.task_text.proofs.Taken.{same-word}
-use Rattle.task_text.proofs.Answering.{Answers, need-answers, room-answers, take-answers, seen-is, ItemAnswers}
 use Rattle.task_lines.specs.declared.step.Term.{Term}
 use Rattle.task_lines.specs.declared.step.Term.TheVariants as term
 use Rattle.task_lines.specs.declared.step.Passed.{Passed}
@@ -25,8 +9,7 @@ use Rattle.task_lines.specs.declared.step.Passed.TheVariants as passed
 use Rattle.task_lines.specs.declared.item.RootTerm.{RootTerm}
 use Rattle.task_lines.specs.declared.item.RootTerm.TheVariants as root_term
 use Rattle.task_lines.specs.Scope.{same_sort, is_variable, has_variable}
-use Rattle.task_lines.specs.Line.{term_of, read_term, is_variable_word, variable_of, is_new, read_variable, read_other_future, is_root_argument, root_term_of, read_root_argument}
-use Rattle.task_lines.specs.Steps.{is_argument, passed_of, read_argument, read_member}
+use Rattle.task_lines.specs.Line.{term_of, read_term, is_variable_word, variable_of, is_new, read_variable, read_other_future, is_root_argument, root_term_of, read_root_argument, is_argument, passed_of, read_argument, read_member}
 use Rattle.task_lines.specs.Grammar.{SpellsTerm, SpellsPassed, SpellsRootTerm, SpellsFuture, SpellsVariable, IsNew}
 use Rattle.task_lines.proofs.SpelledParts.{AreNew}
 

@@ -1,36 +1,18 @@
 -- The words that spell lines have only bytes that may stand outside comments.
-use Rattle.std.proofs.Common.{◌≡◌, ℕ, ◌+◌, ◌≤◌, Bool, true, false, not, ◌&&◌, ◌||◌, cond, nat_eq, nat_le, Option, Some, None, List, [], ◌∷◌, ◌++◌, length, Result, Ok, Err, refl, sym, ◌∙◌, ap, subst, inl, inr, arith}
-use Rattle.std.specs.Prelude.{codes, nat_lt, ◌^◌}
-use Rattle.std.specs.List.{list_all}
-use Rattle.std.specs.Str.Parse.{digits_value}
-use Rattle.std.proofs.lemmas.Bool.{leb-true, le-leb, eqb-true}
-use Rattle.task_syntax.specs.Names.{is_between, is_letter, is_digit, is_name_byte, is_reserved, begins_with_letter, IsName}
-use Rattle.task_syntax.specs.declared.program.Sort.{Sort}
+use Rattle.task_lines.proofs.Vocabulary.{◌≡◌, ℕ, ◌+◌, ◌≤◌, Bool, true, false, not, ◌&&◌, ◌||◌, cond, nat_eq, nat_le, Option, Some, None, List, [], ◌∷◌, ◌++◌, length, Result, Ok, Err, refl, sym, ◌∙◌, ap, subst, inl, inr, arith, codes, nat_lt, ◌^◌, list_all, digits_value, leb-true, le-leb, eqb-true, is_between, is_letter, is_digit, is_name_byte, is_reserved, begins_with_letter, IsName, Sort, Variable, MathOp, Relation, Less, AtMost, Equal, Differs, Priority, High, Regular, Low, both, either, NotText, Fault, fault_at, Word, is_text, check_words}
 use Rattle.task_syntax.specs.declared.program.Sort.TheVariants as sort
-use Rattle.task_syntax.specs.declared.program.Variable.{Variable}
-use Rattle.task_syntax.specs.declared.instr.MathOp.{MathOp}
 use Rattle.task_syntax.specs.declared.instr.MathOp.TheVariants as op
-use Rattle.task_syntax.specs.declared.instr.Relation.{Relation}
-use Rattle.task_syntax.specs.declared.instr.Relation.TheVariants.{Less, AtMost, Equal, Differs}
-use Rattle.task_syntax.specs.declared.value.Priority.{Priority}
-use Rattle.task_syntax.specs.declared.value.Priority.TheVariants.{High, Regular, Low}
-use Rattle.task_syntax.proofs.Bools.{both, either}
-use Rattle.task_text.specs.declared.fault.Cause.TheVariants.{NotText}
-use Rattle.task_text.specs.declared.fault.Fault.{Fault}
-use Rattle.task_text.specs.Fault.{fault_at}
-use Rattle.task_text.specs.Text.{Word}
-use Rattle.task_text.specs.Scan.{is_text, check_words}
 use Rattle.task_lines.specs.declared.step.Term.{Term}
 use Rattle.task_lines.specs.declared.step.Term.TheVariants as term
 use Rattle.task_lines.specs.declared.step.Passed.{Passed}
 use Rattle.task_lines.specs.declared.step.Passed.TheVariants as passed
-use Rattle.task_lines.specs.declared.step.Step.{Step}
 use Rattle.task_lines.specs.declared.step.Step.TheVariants.{Set, Math, If, Goto, Label, Cell, Rows, Spawn, All, Copy, Drop, Get, Again, Done}
 use Rattle.task_lines.specs.declared.item.RootTerm.{RootTerm}
 use Rattle.task_lines.specs.declared.item.RootTerm.TheVariants as root_term
 use Rattle.task_lines.specs.declared.item.What.{What}
 use Rattle.task_lines.specs.declared.item.What.TheVariants as what
-use Rattle.task_lines.specs.Grammar.{SpellsName, SpellsFuture, SpellsNumber, SpellsTerm, SpellsPassed, SpellsRootTerm, SpellsVariable, operation_word, relation_word, priority_word, EachSpells, SpellsFutures, SpellsBehind, SpellsPriority, retry_words, SpellsStep, Spells}
+use Rattle.task_lines.specs.Table.{Part, GotoWord, AName, ANewName, ATarget, ATerm, ARelation, AFuture, KindVariables, MoreVariables, Arguments, RootArguments, Members, HeldFutures, SettledFutures, Predecessor, APriority, LastPriority, ARetry, Of, Values, Choice, Choices, part_words, words_of, entry}
+use Rattle.task_lines.specs.Grammar.{SpellsName, SpellsFuture, SpellsNumber, SpellsTerm, SpellsPassed, SpellsRootTerm, SpellsVariable, operation_word, relation_word, priority_word, EachSpells, SpellsFutures, SpellsBehind, SpellsPriority, retry_words, Spells}
 
 -- each byte of the words may stand outside comments
 abbrev pub AreText : List Word → Type 0
@@ -49,7 +31,7 @@ text-checked (word ∷ words) h line at = words-checked line at word words (is_t
 
 -- ---- bytes
 
-between : (low high byte : ℕ) → is_between low high byte ≡ true → (low ≤ byte) × (byte ≤ high)
+pub between : (low high byte : ℕ) → is_between low high byte ≡ true → (low ≤ byte) × (byte ≤ high)
 between low high byte h = let b = both (nat_le low byte) (nat_le byte high) h in (leb-true low byte b.0, leb-true byte high b.1)
 
 text-byte : (byte : ℕ) → 33 ≤ byte → byte ≤ 126 → is_between 33 126 byte ≡ true
@@ -70,7 +52,7 @@ name-byte-text byte h = elim (either (is_letter byte || is_digit byte) (nat_eq b
   | inr e ↦ text-byte byte (omega (arith, eqb-true byte 95 e)) (omega (arith, eqb-true byte 95 e))
 ]
 
-all-pass : {X : Type 0} (p q : X → Bool) → ((x : X) → p x ≡ true → q x ≡ true) → (xs : List X) → list_all p xs ≡ true → list_all q xs ≡ true
+pub all-pass : {X : Type 0} (p q : X → Bool) → ((x : X) → p x ≡ true → q x ≡ true) → (xs : List X) → list_all p xs ≡ true → list_all q xs ≡ true
 all-pass p q h [] e = refl
 all-pass p q h (x ∷ xs) e = let b = both (p x) (list_all p xs) e in ap (λ c. c && list_all q xs) (h x b.0) ∙ all-pass p q h xs b.1
 
@@ -159,59 +141,50 @@ futures-text opening is words (name ∷ names) h = subst AreText (sym h.1) (is, 
 
 -- ---- lines
 
-step-text : (words : List Word) (i : Step) → SpellsStep words i → AreText words
-step-text words (Set to value) p = subst AreText (sym p.1) (refl, (name-text to p.2, (term-text p.0 value p.3, tt)))
-step-text words (Math operation to left right) p =
-    subst AreText (sym p.2) (operation-text operation, (name-text to p.3, (term-text p.0 left p.4, (term-text p.1 right p.5, tt))))
-step-text words (If relation left right target) p =
-    subst AreText (sym p.2) (refl, (term-text p.0 left p.3, (relation-text relation, (term-text p.1 right p.4, (refl, (name-text target p.5, tt))))))
-step-text words (Goto target) p = subst AreText (sym p.0) (refl, (name-text target p.1, tt))
-step-text words (Label name) p = subst AreText (sym p.0) (refl, (name-text name p.1, tt))
-step-text words (Cell to column row) p = subst AreText (sym p.1) (refl, (name-text to p.2, (name-text column p.3, (term-text p.0 row p.4, tt))))
-step-text words (Rows to column) p = subst AreText (sym p.0) (refl, (name-text to p.1, (name-text column p.2, tt)))
-step-text words (Spawn to kind arguments behind priority retry) p =
-    subst AreText (sym p.3) (
-      refl,
-      (
-        name-text to p.4,
-        (
-          name-text kind p.5,
-          append-text p.0 (p.1 ++ (p.2 ++ retry_words retry)) (each-text SpellsPassed passed-text p.0 arguments p.6)
-              (append-text p.1 (p.2 ++ retry_words retry) (behind-text p.1 behind p.7) (append-text p.2 (retry_words retry) (priority-text p.2 priority p.8) (retry-text retry))),
-        ),
-      ),
-    )
-step-text words (All to members priority retry) p =
-    subst AreText (sym p.2) (
-      refl,
-      (
-        name-text to p.3,
-        append-text p.0 (p.1 ++ retry_words retry) (each-text SpellsFuture future-text p.0 members p.5)
-            (append-text p.1 (retry_words retry) (priority-text p.1 priority p.6) (retry-text retry)),
-      ),
-    )
-step-text words (Copy to source) p = subst AreText (sym p.0) (refl, (name-text to p.1, (name-text source p.2, tt)))
-step-text words (Drop future) p = subst AreText (sym p.0) (refl, (name-text future p.1, tt))
-step-text words (Get to future) p = subst AreText (sym p.0) (refl, (name-text to p.1, (name-text future p.2, tt)))
-step-text words (Again target behind priority) p =
-    subst AreText (sym p.2) (refl, (name-text target p.3, append-text p.0 p.1 (behind-text p.0 behind p.4) (priority-text p.1 priority p.5)))
-step-text words (Done value) p = subst AreText (sym p.1) (refl, (term-text p.0 value p.2, tt))
+part-text : (part : Part) (v : Of part) (c : Choice part v) → AreText (part_words part v c)
+part-text GotoWord v c = (refl, tt)
+part-text AName name c = (name-text name c, tt)
+part-text (ANewName named) name c = (name-text name c, tt)
+part-text ATarget name c = (name-text name c, tt)
+part-text ATerm t c = (term-text c.0 t c.1, tt)
+part-text ARelation relation c = (relation-text relation, tt)
+part-text AFuture name c = (name-text name c, tt)
+part-text KindVariables variables c = each-text SpellsVariable variable-text c.0 variables c.1
+part-text MoreVariables variables c = each-text SpellsVariable variable-text c.0 variables c.2
+part-text Arguments arguments c = each-text SpellsPassed passed-text c.0 arguments c.1
+part-text RootArguments arguments c = each-text SpellsRootTerm root-term-text c.0 arguments c.1
+part-text Members members c = each-text SpellsFuture future-text c.0 members c.2
+part-text HeldFutures names c = futures-text (codes "holds") refl c.0 names c.1
+part-text SettledFutures names c = futures-text (codes "settled") refl c.0 names c.1
+part-text Predecessor behind c = behind-text c.0 behind c.1
+part-text APriority priority c = priority-text c.0 priority c.1
+part-text LastPriority priority c = priority-text c.0 priority c.1
+part-text ARetry retry c = retry-text retry
+
+parts-text : (ps : List Part) (vs : Values ps) (c : Choices ps vs) → AreText (words_of ps vs c [])
+parts-text [] vs c = tt
+parts-text (part ∷ ps) vs c = append-text (part_words part vs.0 c.0) (words_of ps vs.1 c.1 []) (part-text part vs.0 c.0) (parts-text ps vs.1 c.1)
+
+first-text : (w : What) → is_text (entry w).word ≡ true
+first-text (what.Step (Math operation to left right)) = operation-text operation
+first-text (what.Kind name arguments) = refl
+first-text (what.Var variables) = refl
+first-text (what.State name holds settled) = refl
+first-text what.End = refl
+first-text (what.Root name kind arguments behind priority) = refl
+first-text (what.Step (Set to value)) = refl
+first-text (what.Step (If relation left right target)) = refl
+first-text (what.Step (Goto target)) = refl
+first-text (what.Step (Label name)) = refl
+first-text (what.Step (Cell to column row)) = refl
+first-text (what.Step (Rows to column)) = refl
+first-text (what.Step (Spawn to kind arguments behind priority retry)) = refl
+first-text (what.Step (All to members priority retry)) = refl
+first-text (what.Step (Copy to source)) = refl
+first-text (what.Step (Drop future)) = refl
+first-text (what.Step (Get to future)) = refl
+first-text (what.Step (Again target behind priority)) = refl
+first-text (what.Step (Done value)) = refl
 
 pub spelled-text : (words : List Word) (w : What) → Spells words w → AreText words
-spelled-text words (what.Kind name arguments) p = subst AreText (sym p.1) (refl, (name-text name p.2, each-text SpellsVariable variable-text p.0 arguments p.3))
-spelled-text words (what.Var variables) p = subst AreText (sym p.1) (refl, each-text SpellsVariable variable-text p.0 variables p.3)
-spelled-text words (what.State name holds settled) p =
-    subst AreText (sym p.2) (refl, (name-text name p.3, append-text p.0 p.1 (futures-text (codes "holds") refl p.0 holds p.4) (futures-text (codes "settled") refl p.1 settled p.5)))
-spelled-text words (what.Step i) p = step-text words i p
-spelled-text words what.End p = subst AreText (sym p) (refl, tt)
-spelled-text words (what.Root name kind arguments behind priority) p =
-    subst AreText (sym p.3) (
-      refl,
-      (
-        name-text name p.4,
-        (
-          name-text kind p.5,
-          append-text p.0 (p.1 ++ p.2) (each-text SpellsRootTerm root-term-text p.0 arguments p.6) (append-text p.1 p.2 (behind-text p.1 behind p.7) (priority-text p.2 priority p.8)),
-        ),
-      ),
-    )
+spelled-text words w p = subst AreText (sym p.1) (first-text w, parts-text (entry w).parts (entry w).values p.0)

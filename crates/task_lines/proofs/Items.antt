@@ -1,13 +1,8 @@
 -- One turn over the rows of a text: another item, a fault, and the end.
-use Rattle.std.proofs.Common.{◌≡◌, ◌≢◌, ℕ, ◌+◌, ◌≤◌, List, [], ◌∷◌, ◌++◌, length, drop, Some, None, Result, Ok, Err, refl, sym, ap, append_assoc, append-nil, arith}
-use Rattle.task_text.specs.declared.fault.Fault.{Fault}
-use Rattle.task_text.specs.declared.fault.Cause.TheVariants.{NoEnd}
-use Rattle.task_text.specs.declared.fault.TextError.{TextError}
+use Rattle.task_lines.proofs.Vocabulary.{◌≡◌, ◌≢◌, ℕ, ◌+◌, ◌≤◌, List, [], ◌∷◌, ◌++◌, length, drop, Some, None, Result, Ok, Err, refl, sym, ap, append-nil, arith, Fault, NoEnd, TextError, fault_at, Gives, Row, Scan, start_of, first_start}
+use Rattle.std.proofs.Common.{append_assoc}
 use Rattle.task_text.specs.declared.fault.TextError.TheVariants as error
-use Rattle.task_text.specs.Fault.{fault_at, ◌>>=◌, Gives}
-use Rattle.task_text.specs.Text.{Row}
-use Rattle.task_text.specs.Scan.{Scan, start_of}
-use Rattle.task_text.specs.Cursor.{first_start}
+use Rattle.task_text.specs.Fault.{◌>>=◌}
 use Rattle.task_lines.specs.declared.item.What.{What}
 use Rattle.task_lines.specs.declared.item.What.TheVariants as what
 use Rattle.task_lines.specs.declared.item.Item.{Item}

@@ -1,12 +1,13 @@
+pub mod Vocabulary
+pub mod Operations
 pub mod SpelledParts
-pub mod SpelledSteps
 pub mod SpelledLines
 pub mod Parts
 pub mod Starts
 pub mod Items
 pub mod Spelled
 pub mod AcceptedParts
-pub mod AcceptedSteps
+pub mod AcceptedEnds
 pub mod AcceptedLines
 pub mod AcceptedText
 pub mod Accepted

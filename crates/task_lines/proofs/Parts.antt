@@ -1,11 +1,5 @@
 -- The parts of lines.
-use Rattle.std.proofs.Common.{◌≡◌, ◌+◌, Bool, true, false, not, ◌&&◌, ◌||◌, List, [], ◌∷◌, ◌++◌, length, IsTrue, refl, ◌∙◌, ap, arith}
-use Rattle.std.specs.List.{list_any}
-use Rattle.std.proofs.lemmas.List.{length-append}
-use Rattle.std.proofs.lemmas.List.Folds.{list_any-append}
-use Rattle.task_syntax.specs.declared.program.Variable.{Variable}
-use Rattle.task_text.specs.Text.{Word}
-use Rattle.task_text.specs.Scan.{is_number, begins_with_digit}
+use Rattle.task_lines.proofs.Vocabulary.{◌≡◌, ◌+◌, Bool, true, false, not, ◌&&◌, ◌||◌, List, [], ◌∷◌, ◌++◌, length, IsTrue, refl, ◌∙◌, ap, arith, list_any, length-append, list_any-append, Variable, Word, is_number, begins_with_digit}
 use Rattle.task_lines.specs.Scope.{is_variable}
 use Rattle.task_lines.specs.Line.{variable_of, is_new}
 

@@ -1,149 +1,19 @@
 -- The items that are read from a text are spelled by its rows.
-use Rattle.std.proofs.Common.{◌≡◌, ℕ, Bool, true, false, cond, Option, Some, None, List, [], ◌∷◌, ◌++◌, length, Result, Ok, Err, refl, sym, ◌∙◌, ap, subst, arith}
-use Rattle.std.specs.Prelude.{codes}
-use Rattle.task_syntax.specs.declared.instr.MathOp.TheVariants as op
-use Rattle.task_syntax.proofs.Differ.{differ-nil}
-use Rattle.task_syntax.specs.Names.{same_bytes}
-use Rattle.task_text.specs.declared.fault.Cause.TheVariants.{NoHeader, NoEnd}
-use Rattle.task_text.specs.declared.fault.Fault.{Fault}
-use Rattle.task_text.specs.Fault.{fault_at, ◌>>=◌}
-use Rattle.task_text.specs.Text.{Word, Row, lines_of, without_mark, rows_of}
-use Rattle.task_text.specs.Scan.{Scan, start_of, is_present, seen, moved, check_text, whole}
-use Rattle.task_text.proofs.Taken.{needed, same-ok, this-word}
-use Rattle.task_text.proofs.Whole.{ArePresent, RowsPresent, rows-present, read-whole, whole-words}
-use Rattle.task_lines.specs.declared.keyword.Keyword.{Keyword}
-use Rattle.task_lines.specs.declared.keyword.Keyword.TheVariants as k
+use Rattle.task_lines.proofs.Vocabulary.{◌≡◌, ℕ, Bool, true, false, cond, List, [], ◌∷◌, length, Result, Ok, Err, refl, sym, ◌∙◌, ap, subst, arith, codes, differ-nil, same_bytes, NoHeader, NoEnd, Fault, fault_at, Row, lines_of, without_mark, rows_of, Scan, start_of, moved, check_text, whole, needed, same-ok, this-word, ArePresent, RowsPresent, rows-present, read-whole, whole-words}
+use Rattle.task_text.specs.Fault.{◌>>=◌}
 use Rattle.task_lines.specs.declared.item.What.{What}
 use Rattle.task_lines.specs.declared.item.What.TheVariants as what
 use Rattle.task_lines.specs.declared.item.Item.{Item}
 use Rattle.task_lines.specs.declared.scope.Place.{Place}
-use Rattle.task_lines.specs.declared.scope.Place.TheVariants.{Outside, Head, Code}
+use Rattle.task_lines.specs.declared.scope.Place.TheVariants.{Outside}
 use Rattle.task_lines.specs.declared.scope.Scope.{Scope}
 use Rattle.task_lines.specs.Scope.{first_scope, after}
-use Rattle.task_lines.specs.Keyword.{may_open, opening}
 use Rattle.task_lines.specs.Line.{header_line}
-use Rattle.task_lines.specs.Steps.{line_by, read_line}
+use Rattle.task_lines.specs.Table.{read_line}
 use Rattle.task_lines.specs.Reading.{is_cut_short, line_of, items_from, rows_behind_header, items_of}
-use Rattle.task_lines.specs.Grammar.{Spells, IsInState, MayStand, RowsSpellFrom, RowsSpell}
-use Rattle.task_lines.proofs.SpelledParts.{AreNew, word-first}
-use Rattle.task_lines.proofs.SpelledSteps.{InCode, set-taken, math-taken, if-taken, goto-taken, label-taken, cell-taken, rows-taken, spawn-taken, all-taken, copy-taken, drop-taken, get-taken, again-taken, done-taken}
-use Rattle.task_lines.proofs.SpelledLines.{keyword_word, Opens, opens, TakesLine, IsInside, kind-taken, var-taken, state-taken, end-taken, root-taken, step-taken}
-
--- ---- where a keyword may open a line
-
-opens-kind : (place : Place) → may_open place k.Kind ≡ true → place ≡ Outside
-opens-kind Outside m = refl
-opens-kind place m = cc
-
-opens-root : (place : Place) → may_open place k.Root ≡ true → place ≡ Outside
-opens-root Outside m = refl
-opens-root place m = cc
-
-opens-var : (place : Place) → may_open place k.Var ≡ true → place ≡ Head
-opens-var Head m = refl
-opens-var place m = cc
-
-opens-state : (place : Place) → may_open place k.State ≡ true → IsInside place
-opens-state Outside m = cc
-opens-state place m = tt
-
-opens-end : (place : Place) → may_open place k.End ≡ true → IsInside place
-opens-end Outside m = cc
-opens-end place m = tt
-
-opens-label : (place : Place) → may_open place k.Label ≡ true → IsInState place
-opens-label Outside m = cc
-opens-label Head m = cc
-opens-label place m = tt
-
--- the keywords of the instructions that are no labels
-abbrev IsOfStep : Keyword → Type 0
-IsOfStep k.Kind = ⊥
-IsOfStep k.Var = ⊥
-IsOfStep k.State = ⊥
-IsOfStep k.End = ⊥
-IsOfStep k.Root = ⊥
-IsOfStep k.Label = ⊥
-IsOfStep _ = Unit {0}
-
-opens-step : (place : Place) (keyword : Keyword) → IsOfStep keyword → may_open place keyword ≡ true → place ≡ Code
-opens-step Code keyword i m = refl
-opens-step place k.Kind i m = absurd i
-opens-step place k.Var i m = absurd i
-opens-step place k.State i m = absurd i
-opens-step place k.End i m = absurd i
-opens-step place k.Root i m = absurd i
-opens-step place k.Label i m = absurd i
-opens-step place keyword i m = cc
-
--- ---- a line
-
--- the words that were taken spell the line, and it may stand in the scope if nothing is cut short
-pub record TakesRow (scope : Scope) (s : Scan) (r : What × Scan) : Type 0 where
-  pub words : List Word
-  pub left : s.left ≡ words ++ r.1.left
-  pub spells : Spells words r.0
-  pub stands : is_cut_short scope.place r.0 ≡ false → MayStand scope r.0
-
-with-opening : (word : Word) (scope : Scope) (s : Scan) (r : What × Scan) → is_present word ≡ true → seen s ≡ word → TakesLine word scope s r → TakesRow scope s r
-with-opening word scope s r present is taken = record {
-  words = word ∷ taken.words;
-  left = word-first word s present is ∙ ap (λ ws. word ∷ ws) taken.left;
-  spells = taken.spells;
-  stands = taken.stands;
-}
-
-line-by : (scope : Scope) → AreNew 255 scope.variables → (s : Scan) (r : What × Scan) (keyword : Keyword) → Opens scope.place (seen s) keyword
-    → line_by scope (Some keyword) s ≡ Ok r → TakesRow scope s r
-unfolding keyword_word
-line-by scope new s r k.Kind o e = with-opening (codes "kind") scope s r refl o.word_is (kind-taken scope (opens-kind scope.place o.may) s r e)
-line-by scope new s r k.Var o e = with-opening (codes "var") scope s r refl o.word_is (var-taken scope (opens-var scope.place o.may) new s r e)
-line-by scope new s r k.State o e = with-opening (codes "state") scope s r refl o.word_is (state-taken scope (opens-state scope.place o.may) s r e)
-line-by scope new s r k.End o e = with-opening (codes "end") scope s r refl o.word_is (end-taken scope (opens-end scope.place o.may) s r e)
-line-by scope new s r k.Root o e = with-opening (codes "root") scope s r refl o.word_is (root-taken scope (opens-root scope.place o.may) s r e)
-line-by scope new s r k.Label o e = with-opening (codes "label") scope s r refl o.word_is
-    (step-taken (codes "label") scope IsInState _ (label-taken scope) (opens-label scope.place o.may) s r e)
-line-by scope new s r k.Set o e = with-opening (codes "set") scope s r refl o.word_is
-    (step-taken (codes "set") scope InCode _ (set-taken scope) (opens-step scope.place k.Set tt o.may) s r e)
-line-by scope new s r k.Add o e = with-opening (codes "add") scope s r refl o.word_is
-    (step-taken (codes "add") scope InCode _ (math-taken op.Add scope) (opens-step scope.place k.Add tt o.may) s r e)
-line-by scope new s r k.Sub o e = with-opening (codes "sub") scope s r refl o.word_is
-    (step-taken (codes "sub") scope InCode _ (math-taken op.Sub scope) (opens-step scope.place k.Sub tt o.may) s r e)
-line-by scope new s r k.Mul o e = with-opening (codes "mul") scope s r refl o.word_is
-    (step-taken (codes "mul") scope InCode _ (math-taken op.Mul scope) (opens-step scope.place k.Mul tt o.may) s r e)
-line-by scope new s r k.Div o e = with-opening (codes "div") scope s r refl o.word_is
-    (step-taken (codes "div") scope InCode _ (math-taken op.Div scope) (opens-step scope.place k.Div tt o.may) s r e)
-line-by scope new s r k.Rem o e = with-opening (codes "rem") scope s r refl o.word_is
-    (step-taken (codes "rem") scope InCode _ (math-taken op.Rem scope) (opens-step scope.place k.Rem tt o.may) s r e)
-line-by scope new s r k.If o e = with-opening (codes "if") scope s r refl o.word_is
-    (step-taken (codes "if") scope InCode _ (if-taken scope) (opens-step scope.place k.If tt o.may) s r e)
-line-by scope new s r k.Goto o e = with-opening (codes "goto") scope s r refl o.word_is
-    (step-taken (codes "goto") scope InCode _ (goto-taken scope) (opens-step scope.place k.Goto tt o.may) s r e)
-line-by scope new s r k.Cell o e = with-opening (codes "cell") scope s r refl o.word_is
-    (step-taken (codes "cell") scope InCode _ (cell-taken scope) (opens-step scope.place k.Cell tt o.may) s r e)
-line-by scope new s r k.Rows o e = with-opening (codes "rows") scope s r refl o.word_is
-    (step-taken (codes "rows") scope InCode _ (rows-taken scope) (opens-step scope.place k.Rows tt o.may) s r e)
-line-by scope new s r k.Spawn o e = with-opening (codes "spawn") scope s r refl o.word_is
-    (step-taken (codes "spawn") scope InCode _ (spawn-taken scope) (opens-step scope.place k.Spawn tt o.may) s r e)
-line-by scope new s r k.All o e = with-opening (codes "all") scope s r refl o.word_is
-    (step-taken (codes "all") scope InCode _ (all-taken scope) (opens-step scope.place k.All tt o.may) s r e)
-line-by scope new s r k.Copy o e = with-opening (codes "copy") scope s r refl o.word_is
-    (step-taken (codes "copy") scope InCode _ (copy-taken scope) (opens-step scope.place k.Copy tt o.may) s r e)
-line-by scope new s r k.Drop o e = with-opening (codes "drop") scope s r refl o.word_is
-    (step-taken (codes "drop") scope InCode _ (drop-taken scope) (opens-step scope.place k.Drop tt o.may) s r e)
-line-by scope new s r k.Get o e = with-opening (codes "get") scope s r refl o.word_is
-    (step-taken (codes "get") scope InCode _ (get-taken scope) (opens-step scope.place k.Get tt o.may) s r e)
-line-by scope new s r k.Again o e = with-opening (codes "again") scope s r refl o.word_is
-    (step-taken (codes "again") scope InCode _ (again-taken scope) (opens-step scope.place k.Again tt o.may) s r e)
-line-by scope new s r k.Done o e = with-opening (codes "done") scope s r refl o.word_is
-    (step-taken (codes "done") scope InCode _ (done-taken scope) (opens-step scope.place k.Done tt o.may) s r e)
-
-pub line-taken : (scope : Scope) → AreNew 255 scope.variables → (s : Scan) (r : What × Scan) → read_line scope s ≡ Ok r → TakesRow scope s r
-unfolding read_line
-line-taken scope new s r = by (opening scope.place (seen s)) refl where
-  by : (o : Option Keyword) → opening scope.place (seen s) ≡ o → line_by scope o s ≡ Ok r → TakesRow scope s r
-  by None is e = cc
-  by (Some keyword) is e = line-by scope new s r keyword (opens scope.place (seen s) keyword is) e
+use Rattle.task_lines.specs.Grammar.{Spells, MayStand, RowsSpellFrom, RowsSpell}
+use Rattle.task_lines.proofs.SpelledParts.{AreNew}
+use Rattle.task_lines.proofs.SpelledLines.{line-taken}
 
 -- ---- rows
 

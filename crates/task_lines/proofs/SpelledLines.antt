@@ -1,59 +1,22 @@
--- The lines are spelled by the words that their parsers take, and may stand where they were read.
-use Rattle.std.proofs.Common.{◌≡◌, ◌≢◌, ℕ, ◌≤◌, Bool, true, false, cond, Option, Some, None, List, [], ◌∷◌, ◌++◌, length, Ok, refl, sym, ◌∙◌, ap, subst, arith}
-use Rattle.std.specs.Prelude.{codes}
-use Rattle.task_syntax.specs.Places.{AllDiffer}
-use Rattle.task_syntax.specs.declared.program.Variable.{Variable}
-use Rattle.task_syntax.proofs.Differ.{differ-nil}
-use Rattle.task_text.specs.Text.{Word}
-use Rattle.task_text.specs.declared.fault.Cause.TheVariants.{TwiceNamed}
-use Rattle.task_text.specs.Scan.{is_missing, is_present, is_future, Scan, seen, moved, Outcome, Parser, ◌>>◌, pure, read_name, read_new_name, fixed, eat, each, one_or_more}
-use Rattle.task_text.proofs.Taken.{same-ok, parts, roomy, fixed-taken, name-taken, new-name-taken, Eaten, eaten, left, eat-taken, each-taken, one-or-more-taken}
+-- The lines are spelled by the words that their parsers take.
+use Rattle.task_lines.proofs.Vocabulary.{◌≡◌, ◌≢◌, ℕ, ◌<◌, ◌≤◌, Bool, true, false, cond, Option, Some, None, List, [], ◌∷◌, ◌++◌, length, Ok, refl, sym, ◌∙◌, ap, subst, arith, append-nil, codes, AllDiffer, differ-nil, Word, TwiceNamed, BackLabel, is_missing, is_present, is_future, Scan, seen, moved, Outcome, Parser, ◌>>◌, pure, take_word, fixed, eat, one_or_more, same-ok, parts, roomy, fixed-taken, name-taken, new-name-taken, read-future-taken, each-taken, one-or-more-taken, Eaten, eaten, left, eat-taken}
+use Rattle.std.proofs.lemmas.List.{append_assoc}
+use Rattle.task_lines.specs.declared.item.What.{What}
+use Rattle.task_lines.specs.declared.item.What.TheVariants.{End}
 use Rattle.task_lines.specs.declared.keyword.Keyword.{Keyword}
 use Rattle.task_lines.specs.declared.keyword.Keyword.TheVariants as k
-use Rattle.task_lines.specs.declared.step.Step.{Step}
-use Rattle.task_lines.specs.declared.item.What.{What}
-use Rattle.task_lines.specs.declared.item.What.TheVariants.{Kind, Var, State, Step as StepLine, End, Root}
 use Rattle.task_lines.specs.declared.scope.Place.{Place}
 use Rattle.task_lines.specs.declared.scope.Place.TheVariants.{Outside, Head, Code, Jumped, Ended}
 use Rattle.task_lines.specs.declared.scope.Scope.{Scope}
-use Rattle.task_lines.specs.Keyword.{keywords, keyword_of, may_open, allowed, opening}
-use Rattle.task_lines.specs.Line.{read_variable, read_other_future, read_behind, read_last_priority, kind_line, var_line, read_holds, read_settled, state_line, end_line, is_root_argument, read_root_argument, root_line}
+use Rattle.task_lines.specs.Keyword.{keywords, keyword_word, keyword_of, may_open, allowed, opening}
+use Rattle.task_lines.specs.Line.{read_variable, read_other_future, read_holds, read_settled, is_argument, read_argument, is_root_argument, read_root_argument, read_member}
+use Rattle.task_lines.specs.Spelling.{SpellsFuture, SpellsFutures, SpellsPassed, SpellsRootTerm, SpellsVariable, EachSpells}
+use Rattle.task_lines.specs.Table.{Part, GotoWord, AName, ANewName, ATarget, ATerm, ARelation, AFuture, KindVariables, MoreVariables, Arguments, RootArguments, Members, HeldFutures, SettledFutures, Predecessor, APriority, LastPriority, ARetry, Of, Values, names_of, read_part, read_parts, Choice, Choices, part_words, words_of, Keeps, KeepAll, parts_of, line_of_parts, counted, begun, keyword_line, line_by, read_line}
 use Rattle.task_lines.specs.Reading.{is_open_state, is_cut_short}
-use Rattle.task_lines.specs.Steps.{step_line}
-use Rattle.task_lines.specs.Grammar.{SpellsFuture, SpellsFutures, SpellsVariable, SpellsRootTerm, Spells, EachSpells, MayBegin, MayStand}
-use Rattle.task_lines.proofs.SpelledParts.{list-taken, new-name, AreSpelled, looked-up, AreNew, variable-taken, other-future-taken, root-argument-taken, behind-taken, last-priority-taken}
-use Rattle.task_lines.proofs.SpelledSteps.{TakesStep, chained}
+use Rattle.task_lines.specs.Grammar.{Spells, IsInState, MayBegin, MayStand}
+use Rattle.task_lines.proofs.SpelledParts.{some-same, looked-up, word-first, list-taken, new-name, AreNew, term-taken, variable-taken, other-future-taken, argument-taken, root-argument-taken, member-taken, behind-taken, priority-taken, last-priority-taken, retry-taken, relation-taken}
 
--- ---- the words that open lines
-
-unfoldable pub keyword_word : Keyword → Word
-keyword_word k.Kind = codes "kind"
-keyword_word k.Var = codes "var"
-keyword_word k.State = codes "state"
-keyword_word k.End = codes "end"
-keyword_word k.Root = codes "root"
-keyword_word k.Label = codes "label"
-keyword_word k.Set = codes "set"
-keyword_word k.Add = codes "add"
-keyword_word k.Sub = codes "sub"
-keyword_word k.Mul = codes "mul"
-keyword_word k.Div = codes "div"
-keyword_word k.Rem = codes "rem"
-keyword_word k.If = codes "if"
-keyword_word k.Goto = codes "goto"
-keyword_word k.Cell = codes "cell"
-keyword_word k.Rows = codes "rows"
-keyword_word k.Spawn = codes "spawn"
-keyword_word k.All = codes "all"
-keyword_word k.Copy = codes "copy"
-keyword_word k.Drop = codes "drop"
-keyword_word k.Get = codes "get"
-keyword_word k.Again = codes "again"
-keyword_word k.Done = codes "done"
-
-keywords-spelled : AreSpelled keyword_word keywords
-unfolding keyword_word
-keywords-spelled = (refl, (refl, (refl, (refl, (refl, (refl, (refl, (refl, (refl, (refl, (refl, (refl, (refl, (refl, (refl, (refl, (refl, (refl, (refl, (refl, (refl, (refl, (refl, tt)))))))))))))))))))))))
+-- ---- what opens a line
 
 pub record Opens (place : Place) (word : Word) (keyword : Keyword) : Type 0 where
   pub word_is : word ≡ keyword_word keyword
@@ -62,9 +25,7 @@ pub record Opens (place : Place) (word : Word) (keyword : Keyword) : Type 0 wher
 allowed-by : (place : Place) (word : Word) (found keyword : Keyword) (b : Bool) → may_open place found ≡ b → keyword_of word ≡ Some found
     → cond b (Some found) None ≡ Some keyword → Opens place word keyword
 allowed-by place word found keyword true m e h = subst (Opens place word) (some-same found keyword h)
-    (record { word_is = looked-up keyword_word keywords keywords-spelled word found e; may = m }) where
-      some-same : (x y : Keyword) → Some x ≡ Some y → x ≡ y
-      some-same x y e = cc
+    (record { word_is = looked-up keyword_word keywords word found e; may = m })
 allowed-by place word found keyword false m e h = cc
 
 -- what is known where a word opens a line
@@ -74,49 +35,70 @@ opens place word keyword = by (keyword_of word) refl where
   by None e h = cc
   by (Some found) e h = allowed-by place word found keyword (may_open place found) refl e h
 
--- ---- lines
+abbrev pub IsInside : Place → Type 0
+IsInside Outside = ⊥
+IsInside _ = Unit {0}
 
--- the words that were taken spell the line behind its first word, and it may stand in the scope if nothing is cut short
-pub record TakesLine (opening : Word) (scope : Scope) (s : Scan) (r : What × Scan) : Type 0 where
-  pub words : List Word
-  pub left : (moved s).left ≡ words ++ r.1.left
-  pub spells : Spells (opening ∷ words) r.0
-  pub stands : is_cut_short scope.place r.0 ≡ false → MayStand scope r.0
+opens-kind : (place : Place) → may_open place k.Kind ≡ true → place ≡ Outside
+opens-kind Outside m = refl
+opens-kind place m = cc
 
-pub kind-taken : (scope : Scope) → scope.place ≡ Outside → (s : Scan) (r : What × Scan) → kind_line scope s ≡ Ok r → TakesLine (codes "kind") scope s r
-unfolding kind_line
-kind-taken scope place s r e =
-    let few = roomy (length scope.kinds) 64 _ s r e in
-    let p = parts (read_new_name TwiceNamed scope.kinds (moved s)) _ r few.1 in
-    let name = new-name-taken TwiceNamed scope.kinds (moved s) (p.value, p.scan) p.first in
-    let a = parts (each is_present (read_variable 16) [] p.scan) _ r p.next in
-    let arguments = list-taken SpellsVariable (AreNew 16) p.scan (a.value, a.scan)
-    (each-taken SpellsVariable (AreNew 16) is_present (read_variable 16) (λ found t q h. variable-taken 16 [] found t q refl) [] p.scan (a.value, a.scan) (differ-nil, omega arith) a.first) in
-    subst (TakesLine (codes "kind") scope s) (same-ok (Kind p.value a.value, a.scan) r a.next) (record {
-      words = p.value ∷ arguments.words;
-      left = name.0.left ∙ ap (λ ws. p.value ∷ ws) arguments.left;
-      spells = (arguments.words, refl, name.0.name, arguments.spell);
-      stands = λ cut. (place, few.0, new-name p.value scope.kinds name.1, arguments.holds.0, arguments.holds.1);
-    })
+opens-root : (place : Place) → may_open place k.Root ≡ true → place ≡ Outside
+opens-root Outside m = refl
+opens-root place m = cc
 
-nothing-more : {X : Type 0} (xs : List X) → xs ++ [] ≡ xs
-nothing-more [] = refl
-nothing-more (x ∷ xs) = ap (λ more. x ∷ more) (nothing-more xs)
+opens-var : (place : Place) → may_open place k.Var ≡ true → place ≡ Head
+opens-var Head m = refl
+opens-var place m = cc
 
-pub var-taken : (scope : Scope) → scope.place ≡ Head → AreNew 255 scope.variables → (s : Scan) (r : What × Scan) → var_line scope s ≡ Ok r → TakesLine (codes "var") scope s r
-unfolding var_line
-var-taken scope place new s r e =
-    let all = λ (found : List Variable). AreNew 255 (scope.variables ++ found) in
-    let a = parts (one_or_more is_present (λ found. read_variable 255 (scope.variables ++ found)) (moved s)) _ r e in
-    let found = one-or-more-taken SpellsVariable all is_present (λ found. read_variable 255 (scope.variables ++ found)) (variable-taken 255 scope.variables) (moved s) (a.value, a.scan)
-    (subst (AreNew 255) (sym (nothing-more scope.variables)) new) a.first in
-    let variables = list-taken SpellsVariable all (moved s) (a.value, a.scan) found.0 in
-    subst (TakesLine (codes "var") scope s) (same-ok (Var a.value, a.scan) r a.next) (record {
-      words = variables.words;
-      left = variables.left;
-      spells = (variables.words, refl, found.1, variables.spell);
-      stands = λ cut. (place, variables.holds.0, variables.holds.1);
-    })
+opens-state : (place : Place) → may_open place k.State ≡ true → IsInside place
+opens-state Outside m = cc
+opens-state place m = tt
+
+opens-end : (place : Place) → may_open place k.End ≡ true → IsInside place
+opens-end Outside m = cc
+opens-end place m = tt
+
+opens-label : (place : Place) → may_open place k.Label ≡ true → IsInState place
+opens-label Outside m = cc
+opens-label Head m = cc
+opens-label place m = tt
+
+-- the keywords of the instructions that are no labels
+abbrev IsOfStep : Keyword → Type 0
+IsOfStep k.Kind = ⊥
+IsOfStep k.Var = ⊥
+IsOfStep k.State = ⊥
+IsOfStep k.End = ⊥
+IsOfStep k.Root = ⊥
+IsOfStep k.Label = ⊥
+IsOfStep _ = Unit {0}
+
+opens-step : (place : Place) (keyword : Keyword) → IsOfStep keyword → may_open place keyword ≡ true → place ≡ Code
+opens-step Code keyword i m = refl
+opens-step place k.Kind i m = absurd i
+opens-step place k.Var i m = absurd i
+opens-step place k.State i m = absurd i
+opens-step place k.End i m = absurd i
+opens-step place k.Root i m = absurd i
+opens-step place k.Label i m = absurd i
+opens-step place keyword i m = cc
+
+may-begin : (place : Place) → IsInside place → is_open_state place ≡ false → MayBegin place
+may-begin Head inside cut = tt
+may-begin Ended inside cut = tt
+may-begin Outside inside cut = absurd inside
+may-begin Code inside cut = cc
+may-begin Jumped inside cut = cc
+
+is-ended : (place : Place) → IsInside place → is_cut_short place End ≡ false → place ≡ Ended
+is-ended Head inside cut = cc
+is-ended Ended inside cut = refl
+is-ended Outside inside cut = absurd inside
+is-ended Code inside cut = cc
+is-ended Jumped inside cut = cc
+
+-- ---- parts
 
 -- a fixed word and futures, or nothing
 pub record TakesFutures (word : Word) (s : Scan) (r : List (List ℕ) × Scan) : Type 0 where
@@ -165,85 +147,197 @@ settled-taken : (s : Scan) (r : List (List ℕ) × Scan) → read_settled s ≡ 
 unfolding read_settled
 settled-taken s r e = settled-by s r (is_missing (seen s)) e
 
--- in a kind
-abbrev pub IsInside : Place → Type 0
-IsInside Outside = ⊥
-IsInside _ = Unit {0}
+-- the words of a part stand first, and it names what it may
+pub record TakesPart (scope : Scope) (part : Part) (s : Scan) (r : Of part × Scan) : Type 0 where
+  pub choice : Choice part r.0
+  pub left : s.left ≡ part_words part r.0 choice ++ r.1.left
+  pub keeps : Keeps scope part r.0
 
-may-begin : (place : Place) → IsInside place → is_open_state place ≡ false → MayBegin place
-may-begin Head inside cut = tt
-may-begin Ended inside cut = tt
-may-begin Outside inside cut = absurd inside
-may-begin Code inside cut = cc
-may-begin Jumped inside cut = cc
+part-taken : (scope : Scope) → AreNew 255 scope.variables → (part : Part) (s : Scan) (r : Of part × Scan) → read_part scope part s ≡ Ok r → TakesPart scope part s r
+part-taken scope new GotoWord s r e = record { choice = tt; left = fixed-taken (codes "goto") refl s r e; keeps = tt }
+part-taken scope new AName s r e = let t = name-taken s r e in record { choice = t.name; left = t.left; keeps = tt }
+part-taken scope new (ANewName named) s r e =
+    let t = new-name-taken TwiceNamed (names_of scope named) s r e in
+    record { choice = t.0.name; left = t.0.left; keeps = new-name r.0 (names_of scope named) t.1 }
+part-taken scope new ATarget s r e =
+    let t = new-name-taken BackLabel scope.labels s r e in record { choice = t.0.name; left = t.0.left; keeps = new-name r.0 scope.labels t.1 }
+part-taken scope new ATerm s r e = let t = term-taken s r e in record { choice = (t.word, t.spells); left = t.left; keeps = tt }
+part-taken scope new ARelation s r e = record { choice = tt; left = relation-taken s r e; keeps = tt }
+part-taken scope new AFuture s r e = let t = read-future-taken s r e in record { choice = t.name; left = t.left; keeps = tt }
+part-taken scope new KindVariables s r e =
+    let t = list-taken SpellsVariable (AreNew 16) s r
+    (each-taken SpellsVariable (AreNew 16) is_present (read_variable 16) (λ found t q h. variable-taken 16 [] found t q refl) [] s r (differ-nil, omega arith) e) in
+    record { choice = (t.words, t.spell); left = t.left; keeps = t.holds }
+part-taken scope new MoreVariables s r e =
+    let all = λ (found : List _). AreNew 255 (scope.variables ++ found) in
+    let found = one-or-more-taken SpellsVariable all is_present (λ found. read_variable 255 (scope.variables ++ found)) (variable-taken 255 scope.variables) s r
+    (subst (AreNew 255) (sym (append-nil scope.variables)) new) e in
+    let t = list-taken SpellsVariable all s r found.0 in
+    record { choice = (t.words, found.1, t.spell); left = t.left; keeps = t.holds }
+part-taken scope new Arguments s r e =
+    let t = list-taken SpellsPassed (λ found. length found ≤ 16) s r
+    (each-taken SpellsPassed (λ found. length found ≤ 16) is_argument read_argument argument-taken [] s r (omega arith) e) in
+    record { choice = (t.words, t.spell); left = t.left; keeps = t.holds }
+part-taken scope new RootArguments s r e =
+    let t = list-taken SpellsRootTerm (λ found. length found ≤ 16) s r
+    (each-taken SpellsRootTerm (λ found. length found ≤ 16) is_root_argument read_root_argument root-argument-taken [] s r (omega arith) e) in
+    record { choice = (t.words, t.spell); left = t.left; keeps = t.holds }
+part-taken scope new Members s r e =
+    let found = one-or-more-taken SpellsFuture (λ found. length found ≤ 8) is_future read_member member-taken s r (omega arith) e in
+    let t = list-taken SpellsFuture (λ found. length found ≤ 8) s r found.0 in
+    record { choice = (t.words, found.1, t.spell); left = t.left; keeps = t.holds }
+part-taken scope new HeldFutures s r e = let t = holds-taken s r e in record { choice = (t.words, t.spells); left = t.left; keeps = t.differ }
+part-taken scope new SettledFutures s r e = let t = settled-taken s r e in record { choice = (t.words, t.spells); left = t.left; keeps = t.differ }
+part-taken scope new Predecessor s r e = let t = behind-taken s r e in record { choice = (t.words, t.spells); left = t.left; keeps = tt }
+part-taken scope new APriority s r e = let t = priority-taken s r e in record { choice = (t.words, t.spells); left = t.left; keeps = tt }
+part-taken scope new LastPriority s r e = let t = last-priority-taken s r e in record { choice = (t.words, t.spells); left = t.left; keeps = tt }
+part-taken scope new ARetry s r e =
+    let t = retry-taken s r e in record { choice = tt; left = t.left ∙ ap (λ ws. ws ++ r.1.left) t.spells; keeps = tt }
 
-pub state-taken : (scope : Scope) → IsInside scope.place → (s : Scan) (r : What × Scan) → state_line scope s ≡ Ok r → TakesLine (codes "state") scope s r
-unfolding state_line
-state-taken scope inside s r e =
-    let few = roomy (length scope.states) 32 _ s r e in
-    let p = parts (read_new_name TwiceNamed scope.states (moved s)) _ r few.1 in
-    let name = new-name-taken TwiceNamed scope.states (moved s) (p.value, p.scan) p.first in
-    let h = parts (read_holds p.scan) _ r p.next in
-    let holds = holds-taken p.scan (h.value, h.scan) h.first in
-    let d = parts (read_settled h.scan) _ r h.next in
-    let settled = settled-taken h.scan (d.value, d.scan) d.first in
-    subst (TakesLine (codes "state") scope s) (same-ok (State p.value h.value d.value, d.scan) r d.next) (record {
-      words = p.value ∷ (holds.words ++ settled.words);
-      left = name.0.left ∙ ap (λ ws. p.value ∷ ws) (chained d.scan.left holds.words settled.words holds.left settled.left);
-      spells = (holds.words, settled.words, refl, name.0.name, holds.spells, settled.spells);
-      stands = λ cut. (may-begin scope.place inside cut, few.0, new-name p.value scope.states name.1, holds.differ, settled.differ);
-    })
+-- what is made of parts whose words stand first
+pub record TakesParts {A : Type 0} (scope : Scope) (ps : List Part) (make : Values ps → A) (s : Scan) (r : A × Scan) : Type 0 where
+  pub values : Values ps
+  pub choices : Choices ps values
+  pub left : s.left ≡ words_of ps values choices r.1.left
+  pub keep : KeepAll scope ps values
+  pub made : make values ≡ r.0
 
-is-ended : (place : Place) → IsInside place → is_cut_short place End ≡ false → place ≡ Ended
-is-ended Head inside cut = cc
-is-ended Ended inside cut = refl
-is-ended Outside inside cut = absurd inside
-is-ended Code inside cut = cc
-is-ended Jumped inside cut = cc
+parts-taken : {A : Type 0} (scope : Scope) → AreNew 255 scope.variables → (ps : List Part) (make : Values ps → A) (s : Scan) (r : A × Scan)
+    → read_parts scope ps make s ≡ Ok r → TakesParts scope ps make s r
+parts-taken {A} scope new [] make s r e =
+    let same = same-ok (make tt, s) r e in
+    record { values = tt; choices = tt; left = ap (λ (q : A × Scan). q.1.left) same; keep = tt; made = ap (λ (q : A × Scan). q.0) same }
+parts-taken scope new (part ∷ ps) make s r e =
+    let p = parts (read_part scope part s) _ r e in
+    let one = part-taken scope new part s (p.value, p.scan) p.first in
+    let more = parts-taken scope new ps (λ vs. make (p.value, vs)) p.scan r p.next in
+    record {
+      values = (p.value, more.values);
+      choices = (one.choice, more.choices);
+      left = one.left ∙ ap (λ ws. part_words part p.value one.choice ++ ws) more.left;
+      keep = (one.keeps, more.keep);
+      made = more.made;
+    }
 
-pub end-taken : (scope : Scope) → IsInside scope.place → (s : Scan) (r : What × Scan) → end_line s ≡ Ok r → TakesLine (codes "end") scope s r
-unfolding end_line
-end-taken scope inside s r e = subst (TakesLine (codes "end") scope s) (same-ok (End, moved s) r e) (record {
-  words = [];
-  left = refl;
-  spells = refl;
-  stands = λ cut. is-ended scope.place inside cut;
-})
+-- ---- lines
 
-pub root-taken : (scope : Scope) → scope.place ≡ Outside → (s : Scan) (r : What × Scan) → root_line scope s ≡ Ok r → TakesLine (codes "root") scope s r
-unfolding root_line
-root-taken scope place s r e =
-    let few = roomy (length scope.roots) 16 _ s r e in
-    let p = parts (read_new_name TwiceNamed scope.roots (moved s)) _ r few.1 in
-    let name = new-name-taken TwiceNamed scope.roots (moved s) (p.value, p.scan) p.first in
-    let q = parts (read_name p.scan) _ r p.next in
-    let kind = name-taken p.scan (q.value, q.scan) q.first in
-    let a = parts (each is_root_argument read_root_argument [] q.scan) _ r q.next in
-    let arguments = list-taken SpellsRootTerm (λ found. length found ≤ 16) q.scan (a.value, a.scan)
-    (each-taken SpellsRootTerm (λ found. length found ≤ 16) is_root_argument read_root_argument root-argument-taken [] q.scan (a.value, a.scan) (omega arith) a.first) in
-    let b = parts (read_behind a.scan) _ r a.next in
-    let behind = behind-taken a.scan (b.value, b.scan) b.first in
-    let o = parts (read_last_priority b.scan) _ r b.next in
-    let priority = last-priority-taken b.scan (o.value, o.scan) o.first in
-    subst (TakesLine (codes "root") scope s) (same-ok (Root p.value q.value a.value b.value o.value, o.scan) r o.next) (record {
-      words = p.value ∷ q.value ∷ (arguments.words ++ (behind.words ++ priority.words));
-      left = name.0.left ∙ ap (λ ws. p.value ∷ ws) (kind.left ∙ ap (λ ws. q.value ∷ ws)
-          (chained o.scan.left arguments.words (behind.words ++ priority.words) arguments.left (chained o.scan.left behind.words priority.words behind.left priority.left)));
-      spells = (arguments.words, behind.words, priority.words, refl, name.0.name, kind.name, arguments.spell, behind.spells, priority.spells);
-      stands = λ cut. (place, few.0, new-name p.value scope.roots name.1, arguments.holds);
-    })
+abbrev pub IsWithin : Option (ℕ × ℕ) → Type 0
+IsWithin None = Unit {0}
+IsWithin (Some count) = count.0 < count.1
 
-pub step-taken : (opening : Word) (scope : Scope) (Stands : Place → Type 0) (read_step : Parser Step)
-    → ((s : Scan) (r : Step × Scan) → read_step s ≡ Ok r → TakesStep opening scope Stands s r) → Stands scope.place
-    → (s : Scan) (r : What × Scan) → step_line scope read_step s ≡ Ok r → TakesLine opening scope s r
-unfolding step_line
-step-taken opening scope Stands read_step takes stands s r e =
-    let few = roomy scope.steps 64 _ s r e in
-    let p = parts (read_step (moved s)) (λ step. pure (StepLine step)) r few.1 in
-    let step = takes (moved s) (p.value, p.scan) p.first in
-    subst (TakesLine opening scope s) (same-ok (StepLine p.value, p.scan) r p.next) (record {
-      words = step.words;
-      left = step.left;
-      spells = step.spells;
-      stands = λ cut. (step.follows stands, few.0, step.may_name);
-    })
+begun-taken : {A : Type 0} (count : Option (ℕ × ℕ)) (read : Parser A) (s : Scan) (r : A × Scan) → begun count read s ≡ Ok r → IsWithin count × (read (moved s) ≡ Ok r)
+begun-taken None read s r e = (tt, e)
+begun-taken (Some count) read s r e = roomy count.0 count.1 (take_word >> read) s r e
+
+words-end : (ps : List Part) (vs : Values ps) (c : Choices ps vs) (rest : List Word) → words_of ps vs c rest ≡ words_of ps vs c [] ++ rest
+words-end [] vs c rest = refl
+words-end (part ∷ ps) vs c rest = ap (λ ws. part_words part vs.0 c.0 ++ ws) (words-end ps vs.1 c.1 rest)
+    ∙ sym (append_assoc (part_words part vs.0 c.0) (words_of ps vs.1 c.1 []) rest)
+
+-- the words of an entry spell the line that is made of it
+pub entry-spells : (keyword : Keyword) (vs : Values (parts_of keyword)) (c : Choices (parts_of keyword) vs)
+    → Spells (keyword_word keyword ∷ words_of (parts_of keyword) vs c []) (line_of_parts keyword vs)
+entry-spells k.Kind vs c = (c, refl)
+entry-spells k.Var vs c = (c, refl)
+entry-spells k.State vs c = (c, refl)
+entry-spells k.End vs c = (c, refl)
+entry-spells k.Root vs c = (c, refl)
+entry-spells k.Label vs c = (c, refl)
+entry-spells k.Set vs c = (c, refl)
+entry-spells k.Add vs c = (c, refl)
+entry-spells k.Sub vs c = (c, refl)
+entry-spells k.Mul vs c = (c, refl)
+entry-spells k.Div vs c = (c, refl)
+entry-spells k.Rem vs c = (c, refl)
+entry-spells k.If vs c = (c, refl)
+entry-spells k.Goto vs c = (c, refl)
+entry-spells k.Cell vs c = (c, refl)
+entry-spells k.Rows vs c = (c, refl)
+entry-spells k.Spawn vs c = (c, refl)
+entry-spells k.All vs c = (c, refl)
+entry-spells k.Copy vs c = (c, refl)
+entry-spells k.Drop vs c = (c, refl)
+entry-spells k.Get vs c = (c, refl)
+entry-spells k.Again vs c = (c, refl)
+entry-spells k.Done vs c = (c, refl)
+
+-- where its parts name what they may, and nothing is cut short, it may stand
+stands : (scope : Scope) (keyword : Keyword) (vs : Values (parts_of keyword)) → may_open scope.place keyword ≡ true → IsWithin (counted scope keyword)
+    → KeepAll scope (parts_of keyword) vs → is_cut_short scope.place (line_of_parts keyword vs) ≡ false → MayStand scope (line_of_parts keyword vs)
+stands scope k.Kind vs may few keep cut = (opens-kind scope.place may, few, keep.0, keep.1.0.0, keep.1.0.1)
+stands scope k.Var vs may few keep cut = (opens-var scope.place may, keep.0.0, keep.0.1)
+stands scope k.State vs may few keep cut = (may-begin scope.place (opens-state scope.place may) cut, few, keep.0, keep.1.0, keep.1.1.0)
+stands scope k.End vs may few keep cut = is-ended scope.place (opens-end scope.place may) cut
+stands scope k.Root vs may few keep cut = (opens-root scope.place may, few, keep.0, keep.1.1.0)
+stands scope k.Label vs may few keep cut = (opens-label scope.place may, few, keep.0)
+stands scope k.Set vs may few keep cut = (opens-step scope.place k.Set tt may, few, tt)
+stands scope k.Add vs may few keep cut = (opens-step scope.place k.Add tt may, few, tt)
+stands scope k.Sub vs may few keep cut = (opens-step scope.place k.Sub tt may, few, tt)
+stands scope k.Mul vs may few keep cut = (opens-step scope.place k.Mul tt may, few, tt)
+stands scope k.Div vs may few keep cut = (opens-step scope.place k.Div tt may, few, tt)
+stands scope k.Rem vs may few keep cut = (opens-step scope.place k.Rem tt may, few, tt)
+stands scope k.If vs may few keep cut = (opens-step scope.place k.If tt may, few, keep.1.1.1.1.0)
+stands scope k.Goto vs may few keep cut = (opens-step scope.place k.Goto tt may, few, keep.0)
+stands scope k.Cell vs may few keep cut = (opens-step scope.place k.Cell tt may, few, tt)
+stands scope k.Rows vs may few keep cut = (opens-step scope.place k.Rows tt may, few, tt)
+stands scope k.Spawn vs may few keep cut = (opens-step scope.place k.Spawn tt may, few, keep.1.1.0)
+stands scope k.All vs may few keep cut = (opens-step scope.place k.All tt may, few, keep.1.0)
+stands scope k.Copy vs may few keep cut = (opens-step scope.place k.Copy tt may, few, tt)
+stands scope k.Drop vs may few keep cut = (opens-step scope.place k.Drop tt may, few, tt)
+stands scope k.Get vs may few keep cut = (opens-step scope.place k.Get tt may, few, tt)
+stands scope k.Again vs may few keep cut = (opens-step scope.place k.Again tt may, few, tt)
+stands scope k.Done vs may few keep cut = (opens-step scope.place k.Done tt may, few, tt)
+
+-- the words that were taken spell the line, and it may stand in the scope if nothing is cut short
+pub record TakesRow (scope : Scope) (s : Scan) (r : What × Scan) : Type 0 where
+  pub words : List Word
+  pub left : s.left ≡ words ++ r.1.left
+  pub spells : Spells words r.0
+  pub stands : is_cut_short scope.place r.0 ≡ false → MayStand scope r.0
+
+keyword-present : (keyword : Keyword) → is_present (keyword_word keyword) ≡ true
+keyword-present k.Kind = refl
+keyword-present k.Var = refl
+keyword-present k.State = refl
+keyword-present k.End = refl
+keyword-present k.Root = refl
+keyword-present k.Label = refl
+keyword-present k.Set = refl
+keyword-present k.Add = refl
+keyword-present k.Sub = refl
+keyword-present k.Mul = refl
+keyword-present k.Div = refl
+keyword-present k.Rem = refl
+keyword-present k.If = refl
+keyword-present k.Goto = refl
+keyword-present k.Cell = refl
+keyword-present k.Rows = refl
+keyword-present k.Spawn = refl
+keyword-present k.All = refl
+keyword-present k.Copy = refl
+keyword-present k.Drop = refl
+keyword-present k.Get = refl
+keyword-present k.Again = refl
+keyword-present k.Done = refl
+
+line-by : (scope : Scope) → AreNew 255 scope.variables → (s : Scan) (r : What × Scan) (keyword : Keyword) → Opens scope.place (seen s) keyword
+    → line_by scope (Some keyword) s ≡ Ok r → TakesRow scope s r
+unfolding keyword_line
+line-by scope new s r keyword o e =
+    let b = begun-taken (counted scope keyword) (read_parts scope (parts_of keyword) (line_of_parts keyword)) s r e in
+    let t = parts-taken scope new (parts_of keyword) (line_of_parts keyword) (moved s) r b.1 in
+    let words = keyword_word keyword ∷ words_of (parts_of keyword) t.values t.choices [] in
+    record {
+      words = words;
+      left = word-first (keyword_word keyword) s (keyword-present keyword) o.word_is
+          ∙ ap (λ ws. keyword_word keyword ∷ ws) (t.left ∙ words-end (parts_of keyword) t.values t.choices r.1.left);
+      spells = subst (Spells words) t.made (entry-spells keyword t.values t.choices);
+      stands = subst (λ w. is_cut_short scope.place w ≡ false → MayStand scope w) t.made (stands scope keyword t.values o.may b.0 t.keep);
+    }
+
+pub line-taken : (scope : Scope) → AreNew 255 scope.variables → (s : Scan) (r : What × Scan) → read_line scope s ≡ Ok r → TakesRow scope s r
+unfolding read_line
+line-taken scope new s r = by (opening scope.place (seen s)) refl where
+  by : (o : Option Keyword) → opening scope.place (seen s) ≡ o → line_by scope o s ≡ Ok r → TakesRow scope s r
+  by None is e = cc
+  by (Some keyword) is e = line-by scope new s r keyword (opens scope.place (seen s) keyword is) e

@@ -1,33 +1,14 @@
 -- The parts of lines are spelled by the words that their parsers take.
-use Rattle.std.proofs.Common.{◌≡◌, ℕ, zero, suc, ◌≤◌, Bool, true, false, not, ◌&&◌, ◌||◌, cond, Option, Some, None, List, [], ◌∷◌, ◌++◌, length, drop, slice_get, Ok, refl, sym, ◌∙◌, ap, subst, inl, inr, arith}
-use Rattle.std.specs.Prelude.{codes}
-use Rattle.std.specs.List.{list_any}
-use Rattle.std.specs.Str.Parse.{digits_value}
-use Rattle.std.proofs.lemmas.Bool.{eq-eqb}
-use Rattle.std.proofs.lemmas.List.{append_assoc, length-append}
-use Rattle.task_syntax.specs.Names.{same_bytes, is_name}
-use Rattle.task_syntax.specs.Places.{AllDiffer}
-use Rattle.task_syntax.specs.declared.program.Sort.{Sort}
+use Rattle.task_lines.proofs.Vocabulary.{◌≡◌, ℕ, zero, suc, ◌≤◌, Bool, true, false, not, ◌&&◌, ◌||◌, cond, Option, Some, None, List, [], ◌∷◌, ◌++◌, length, drop, slice_get, Ok, refl, sym, ◌∙◌, ap, subst, inl, inr, arith, codes, list_any, digits_value, length-append, same_bytes, is_name, AllDiffer, Sort, Variable, Relation, Less, AtMost, Equal, Differs, Priority, High, Regular, Low, either, not_true, or_right, differ-snoc, BadName, BadNumber, TwiceNamed, Word, is_missing, is_present, begins_with_digit, is_number, is_future, is_operand, is_no_bad_number, is_among, Scan, seen, moved, Outcome, ◌>>◌, ◌<$>◌, pure, take_word, need, room, fixed, read_future, eat, same-bytes, same-ok, parts, needed, roomy, first-word, same-word, future-parts, fixed-taken, read-future-taken, Eaten, eaten, left, eat-taken, TakesItem, TakesItems, ItemTakes}
+use Rattle.std.proofs.lemmas.List.{append_assoc}
 use Rattle.task_syntax.specs.declared.program.Sort.TheVariants as sort
-use Rattle.task_syntax.specs.declared.program.Variable.{Variable}
-use Rattle.task_syntax.specs.declared.instr.Relation.{Relation}
-use Rattle.task_syntax.specs.declared.instr.Relation.TheVariants.{Less, AtMost, Equal, Differs}
-use Rattle.task_syntax.specs.declared.value.Priority.{Priority}
-use Rattle.task_syntax.specs.declared.value.Priority.TheVariants.{High, Regular, Low}
-use Rattle.task_syntax.proofs.Bools.{either, not_true, or_right}
-use Rattle.task_syntax.proofs.Differ.{differ-snoc}
-use Rattle.task_text.specs.declared.fault.Cause.TheVariants.{BadName, BadNumber, TwiceNamed}
-use Rattle.task_text.specs.Text.{Word}
-use Rattle.task_text.specs.Scan.{is_missing, is_present, begins_with_digit, is_number, is_future, is_operand, is_no_bad_number, is_among, Scan, seen, moved, Outcome, ◌>>◌, ◌<$>◌, pure, take_word, need, room, fixed, read_future, eat}
-use Rattle.task_text.proofs.Taken.{same-ok, parts, needed, roomy, first-word, same-word, future-parts, fixed-taken, read-future-taken, Eaten, eaten, left, eat-taken, TakesItem, TakesItems, ItemTakes}
 use Rattle.task_lines.specs.declared.step.Term.{Term}
 use Rattle.task_lines.specs.declared.step.Term.TheVariants.{Literal, Variable as TermVariable}
 use Rattle.task_lines.specs.declared.step.Passed.TheVariants as passed
 use Rattle.task_lines.specs.declared.item.RootTerm.TheVariants as root_term
 use Rattle.task_lines.specs.Scope.{same_sort, is_variable, has_variable}
-use Rattle.task_lines.specs.Keyword.{looked_up, relations, relation_of, priorities, priority_of}
-use Rattle.task_lines.specs.Line.{term_of, read_term, is_variable_word, variable_of, is_new, read_variable, read_other_future, read_behind, priority_by, read_priority, last_priority_by, read_last_priority, read_retry, relation_by, read_relation, is_root_argument, root_term_of, read_root_argument}
-use Rattle.task_lines.specs.Steps.{is_argument, passed_of, read_argument, read_member}
+use Rattle.task_lines.specs.Keyword.{looked_up, written_by, relation_of, priority_of}
+use Rattle.task_lines.specs.Line.{term_of, read_term, is_variable_word, variable_of, is_new, read_variable, read_other_future, read_behind, priority_by, read_priority, last_priority_by, read_last_priority, read_retry, relation_by, read_relation, is_root_argument, root_term_of, read_root_argument, is_argument, passed_of, read_argument, read_member}
 use Rattle.task_lines.specs.Grammar.{SpellsTerm, SpellsPassed, SpellsRootTerm, SpellsFuture, SpellsVariable, relation_word, priority_word, EachSpells, SpellsBehind, SpellsPriority, retry_words, IsNew}
 
 -- a word that spells what was read stands first
@@ -54,10 +35,6 @@ list-taken R Holds s r t = record { words = t.words; left = t.left; spell = subs
 
 -- ---- words
 
-pub same-bytes : (word : Word) → same_bytes word word ≡ true
-same-bytes [] = refl
-same-bytes (byte ∷ bytes) = ap (λ b. b && same_bytes bytes bytes) (eq-eqb byte byte refl) ∙ same-bytes bytes
-
 neither : (a b : Bool) → (a || b) ≡ false → (a ≡ false) × (b ≡ false)
 neither true b e = cc
 neither false b e = (refl, e)
@@ -71,21 +48,18 @@ new-name name (other ∷ more) e = let n : (same_bytes name other ≡ false) × 
 pub word-first : (word : Word) (s : Scan) → is_present word ≡ true → seen s ≡ word → s.left ≡ word ∷ (moved s).left
 word-first word s present e = first-word is_present s refl (ap is_present e ∙ present) ∙ ap (λ w. w ∷ (moved s).left) e
 
--- each word of a table is the one that spells what stands beside it
-abbrev pub AreSpelled : {A : Type 0} → (A → Word) → List (Word × A) → Type 0
-AreSpelled spell [] = Unit {0}
-AreSpelled spell (entry ∷ entries) = (entry.0 ≡ spell entry.1) × AreSpelled spell entries
+pub some-same : {A : Type 0} (x y : A) → Some x ≡ Some y → x ≡ y
+some-same x y e = cc
 
-looked-by : {A : Type 0} (spell : A → Word) (entry : Word × A) (entries : List (Word × A)) (word : Word) (a : A) (b : Bool) → same_bytes entry.0 word ≡ b
-    → entry.0 ≡ spell entry.1 → (looked_up entries word ≡ Some a → word ≡ spell a) → cond b (Some entry.1) (looked_up entries word) ≡ Some a → word ≡ spell a
-looked-by spell entry entries word a true t e further h = sym (same-word entry.0 word t) ∙ (e ∙ ap spell (some-same entry.1 a h)) where
-  some-same : {B : Type 0} (x y : B) → Some x ≡ Some y → x ≡ y
-  some-same x y e = cc
-looked-by spell entry entries word a false t e further h = further h
+looked-by : {A : Type 0} (spell : A → Word) (thing : A) (more : List A) (word : Word) (a : A) (b : Bool) → same_bytes (spell thing) word ≡ b
+    → (looked_up (written_by spell more) word ≡ Some a → word ≡ spell a) → cond b (Some thing) (looked_up (written_by spell more) word) ≡ Some a → word ≡ spell a
+looked-by spell thing more word a true t further h = sym (same-word (spell thing) word t) ∙ ap spell (some-same thing a h)
+looked-by spell thing more word a false t further h = further h
 
-pub looked-up : {A : Type 0} (spell : A → Word) (entries : List (Word × A)) → AreSpelled spell entries → (word : Word) (a : A) → looked_up entries word ≡ Some a → word ≡ spell a
-looked-up spell [] are word a h = cc
-looked-up spell (entry ∷ entries) are word a h = looked-by spell entry entries word a (same_bytes entry.0 word) refl are.0 (looked-up spell entries are.1 word a) h
+-- a word that is looked up is the one that writes what was found
+pub looked-up : {A : Type 0} (spell : A → Word) (things : List A) (word : Word) (a : A) → looked_up (written_by spell things) word ≡ Some a → word ≡ spell a
+looked-up spell [] word a h = cc
+looked-up spell (thing ∷ more) word a h = looked-by spell thing more word a (same_bytes (spell thing) word) refl (looked-up spell more word a) h
 
 -- ---- terms
 
@@ -117,9 +91,7 @@ same-sort sort.Future = refl
 
 any-at : {X : Type 0} (test : X → Bool) (xs : List X) (j : ℕ) (x : X) → slice_get xs j ≡ Some x → test x ≡ true → list_any test xs ≡ true
 any-at test [] j x e t = cc
-any-at test (y ∷ ys) zero x e t = ap (λ b. b || list_any test ys) (ap test (some-same y x e) ∙ t) where
-  some-same : {B : Type 0} (x y : B) → Some x ≡ Some y → x ≡ y
-  some-same x y e = cc
+any-at test (y ∷ ys) zero x e t = ap (λ b. b || list_any test ys) (ap test (some-same y x e) ∙ t)
 any-at test (y ∷ ys) (suc j) x e t = or_right (test y) (list_any test ys) (any-at test ys j x e t)
 
 new-variable : (taken : List Variable) (v : Variable) → has_variable taken v.sort v.name ≡ false → (j : ℕ) → slice_get taken j ≡ Some v → ⊥
@@ -256,7 +228,7 @@ priority-present Low = refl
 one-priority : (s : Scan) (priority : Priority) (r : Priority × Scan) → priority_of (seen s) ≡ Some priority
     → ◌≡◌ {A = Outcome Priority} (Ok (priority, moved s)) (Ok r) → TakesWords SpellsPriority s r
 one-priority s priority r o e =
-    let is = looked-up priority_word priorities (refl, (refl, (refl, tt))) (seen s) priority o in
+    let is = looked-up priority_word (High ∷ Regular ∷ Low ∷ []) (seen s) priority o in
     subst (TakesWords SpellsPriority s) (same-ok (priority, moved s) r e)
     (record { words = priority_word priority ∷ []; left = word-first (priority_word priority) s (priority-present priority) is; spells = inl refl })
 
@@ -300,7 +272,7 @@ relation-present Differs = refl
 relation-by : (s : Scan) (r : Relation × Scan) (o : Option Relation) → relation_of (seen s) ≡ o → relation_by o s ≡ Ok r → s.left ≡ relation_word r.0 ∷ r.1.left
 relation-by s r None o e = cc
 relation-by s r (Some relation) o e =
-    let is = looked-up relation_word relations (refl, (refl, (refl, (refl, tt)))) (seen s) relation o in
+    let is = looked-up relation_word (Less ∷ AtMost ∷ Equal ∷ Differs ∷ []) (seen s) relation o in
     subst (λ (r : Relation × Scan). s.left ≡ relation_word r.0 ∷ r.1.left) (same-ok (relation, moved s) r e)
     (word-first (relation_word relation) s (relation-present relation) is)
 

@@ -1,9 +1,5 @@
 -- The rows of a text, and how they start.
-use Rattle.std.proofs.Common.{◌≡◌, ℕ, ◌+◌, ◌≤◌, suc, Bool, true, false, if◌then◌else◌, ◌==◌, List, [], ◌∷◌, length, drop, nat_eq, ap, sym, arith}
-use Rattle.std.specs.List.{starts_with}
-use Rattle.std.proofs.lemmas.List.{length-drop}
-use Rattle.task_text.specs.Text.{Word, Row, in_front, lines_of, words_of, code_of, with_row, rows_from, without_mark, rows_of}
-use Rattle.task_text.specs.Scan.{Scan, start_of}
+use Rattle.task_lines.proofs.Vocabulary.{◌≡◌, ℕ, ◌+◌, ◌≤◌, suc, Bool, true, false, if◌then◌else◌, ◌==◌, List, [], ◌∷◌, length, drop, nat_eq, ap, sym, arith, starts_with, length-drop, Word, Row, in_front, lines_of, words_of, code_of, with_row, rows_from, without_mark, rows_of, Scan, start_of}
 
 -- the scan of a row of which no word is taken yet
 pub from_start : (s : Scan) → s.word ≡ 1 → start_of (record { line = s.line; words = s.left }) ≡ s

@@ -1,5 +1,5 @@
 -- The fixed words of the language, and which may open a line where.
-use Rattle.std.specs.Prelude.{Bool, true, false, if◌then◌else◌, List, [], ◌∷◌, Option, Some, None, codes}
+use Rattle.std.specs.Prelude.{Bool, true, false, if◌then◌else◌, List, [], ◌∷◌, map, Option, Some, None, codes}
 use Rattle.task_syntax.specs.Names.{same_bytes}
 use Rattle.task_syntax.specs.declared.instr.Relation.{Relation}
 use Rattle.task_syntax.specs.declared.instr.Relation.TheVariants.{Less, AtMost, Equal, Differs}
@@ -8,6 +8,7 @@ use Rattle.task_syntax.specs.declared.value.Priority.TheVariants.{High, Regular,
 use Rattle.task_text.specs.Text.{Word}
 use Rattle.task_lines.specs.declared.keyword.Keyword.{Keyword}
 use Rattle.task_lines.specs.declared.keyword.Keyword.TheVariants.{Kind, Var, State, End, Root, Label, Set, Add, Sub, Mul, Div, Rem, If, Goto, Cell, Rows, Spawn, All, Copy, Drop, Get, Again, Done}
+use Rattle.task_lines.specs.Spelling.{relation_word, priority_word}
 use Rattle.task_lines.specs.declared.scope.Place.{Place}
 use Rattle.task_lines.specs.declared.scope.Place.TheVariants.{Outside, Head, Code}
 
@@ -16,30 +17,48 @@ abbrev pub looked_up : {A : Type 0} → List (Word × A) → Word → Option A
 looked_up [] word = None
 looked_up (entry ∷ entries) word = if same_bytes entry.0 word then Some entry.1 else looked_up entries word
 
--- the words that open lines
-abbrev pub keywords : List (Word × Keyword)
+-- a table of what is written by a word
+abbrev pub written_by : {A : Type 0} → (A → Word) → List A → List (Word × A)
+written_by word_for things = map (λ thing. (word_for thing, thing)) things
+
+-- the word that opens a line
+abbrev pub keyword_word : Keyword → Word
+keyword_word Kind = codes "kind"
+keyword_word Var = codes "var"
+keyword_word State = codes "state"
+keyword_word End = codes "end"
+keyword_word Root = codes "root"
+keyword_word Label = codes "label"
+keyword_word Set = codes "set"
+keyword_word Add = codes "add"
+keyword_word Sub = codes "sub"
+keyword_word Mul = codes "mul"
+keyword_word Div = codes "div"
+keyword_word Rem = codes "rem"
+keyword_word If = codes "if"
+keyword_word Goto = codes "goto"
+keyword_word Cell = codes "cell"
+keyword_word Rows = codes "rows"
+keyword_word Spawn = codes "spawn"
+keyword_word All = codes "all"
+keyword_word Copy = codes "copy"
+keyword_word Drop = codes "drop"
+keyword_word Get = codes "get"
+keyword_word Again = codes "again"
+keyword_word Done = codes "done"
+
+abbrev pub keywords : List Keyword
 keywords =
-    (codes "kind", Kind) ∷ (codes "var", Var) ∷ (codes "state", State) ∷ (codes "end", End) ∷ (codes "root", Root) ∷
-    (codes "label", Label) ∷ (codes "set", Set) ∷ (codes "add", Add) ∷ (codes "sub", Sub) ∷ (codes "mul", Mul) ∷
-    (codes "div", Div) ∷ (codes "rem", Rem) ∷ (codes "if", If) ∷ (codes "goto", Goto) ∷ (codes "cell", Cell) ∷
-    (codes "rows", Rows) ∷ (codes "spawn", Spawn) ∷ (codes "all", All) ∷ (codes "copy", Copy) ∷ (codes "drop", Drop) ∷
-    (codes "get", Get) ∷ (codes "again", Again) ∷ (codes "done", Done) ∷ []
+    Kind ∷ Var ∷ State ∷ End ∷ Root ∷ Label ∷ Set ∷ Add ∷ Sub ∷ Mul ∷ Div ∷ Rem ∷ If ∷ Goto ∷ Cell ∷ Rows ∷ Spawn ∷ All ∷ Copy ∷ Drop ∷ Get ∷ Again ∷ Done ∷ []
 
 abbrev pub keyword_of : Word → Option Keyword
-keyword_of = looked_up keywords
-
--- `<`, `<=`, `==` and `!=`
-abbrev pub relations : List (Word × Relation)
-relations = (codes "<", Less) ∷ (codes "<=", AtMost) ∷ (codes "==", Equal) ∷ (codes "!=", Differs) ∷ []
+keyword_of = looked_up (written_by keyword_word keywords)
 
 abbrev pub relation_of : Word → Option Relation
-relation_of = looked_up relations
-
-abbrev pub priorities : List (Word × Priority)
-priorities = (codes "high", High) ∷ (codes "regular", Regular) ∷ (codes "low", Low) ∷ []
+relation_of = looked_up (written_by relation_word (Less ∷ AtMost ∷ Equal ∷ Differs ∷ []))
 
 abbrev pub priority_of : Word → Option Priority
-priority_of = looked_up priorities
+priority_of = looked_up (written_by priority_word (High ∷ Regular ∷ Low ∷ []))
 
 -- whether a line with this first word may stand at a place
 abbrev pub may_open : Place → Keyword → Bool

@@ -1,6 +1,7 @@
 pub mod Scope
 pub mod Keyword
 pub mod Line
-pub mod Steps
+pub mod Spelling
+pub mod Table
 pub mod Reading
 pub mod Grammar

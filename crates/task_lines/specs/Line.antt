@@ -1,5 +1,5 @@
--- The parts of lines, and the lines that are no instructions.
-use Rattle.std.specs.Prelude.{ℕ, Bool, true, false, not, ◌||◌, if◌then◌else◌, List, [], ◌++◌, length, drop, Option, Some, None, codes}
+-- How the parts of lines are read.
+use Rattle.std.specs.Prelude.{ℕ, Bool, true, false, not, ◌||◌, if◌then◌else◌, List, [], length, drop, Option, Some, None, codes}
 use Rattle.std.specs.Str.Parse.{digits_value}
 use Rattle.task_syntax.specs.Names.{same_bytes, is_name}
 use Rattle.task_syntax.specs.declared.program.Sort.TheVariants as sort
@@ -9,14 +9,13 @@ use Rattle.task_syntax.specs.declared.value.Priority.{Priority}
 use Rattle.task_syntax.specs.declared.value.Priority.TheVariants.{Regular}
 use Rattle.task_text.specs.declared.fault.Cause.TheVariants.{NoHeader, UnknownWord, BadName, BadNumber, TwiceNamed}
 use Rattle.task_text.specs.Text.{Word}
-use Rattle.task_text.specs.Scan.{is_missing, is_present, begins_with_digit, is_future, is_operand, is_no_bad_number, is_among, Parser, ◌>>=◌, ◌>>◌, ◌<$>◌, pure, peek, take_word, refuse, need, room, fixed, read_name, read_new_name, read_future, eat, each, one_or_more}
+use Rattle.task_text.specs.Scan.{is_missing, is_present, begins_with_digit, is_future, is_operand, is_no_bad_number, is_among, Parser, ◌>>=◌, ◌>>◌, ◌<$>◌, pure, peek, take_word, refuse, need, room, fixed, read_future, eat, one_or_more}
 use Rattle.task_lines.specs.declared.step.Term.{Term}
 use Rattle.task_lines.specs.declared.step.Term.TheVariants.{Literal, Variable as TermVariable}
 use Rattle.task_lines.specs.declared.item.RootTerm.{RootTerm}
 use Rattle.task_lines.specs.declared.item.RootTerm.TheVariants as root_term
-use Rattle.task_lines.specs.declared.item.What.{What}
-use Rattle.task_lines.specs.declared.item.What.TheVariants.{Kind, Var, State, End, Root}
-use Rattle.task_lines.specs.declared.scope.Scope.{Scope}
+use Rattle.task_lines.specs.declared.step.Passed.{Passed}
+use Rattle.task_lines.specs.declared.step.Passed.TheVariants as passed
 use Rattle.task_lines.specs.Scope.{has_variable}
 use Rattle.task_lines.specs.Keyword.{relation_of, priority_of}
 
@@ -99,54 +98,27 @@ read_relation = do
   word ← peek
   relation_by (relation_of word)
 
--- ---- lines
+-- ---- lists
 
--- `ktask 1`
-unfoldable pub header_line : Parser (Unit {0})
-header_line = do
-  need (same_bytes (codes "ktask")) NoHeader
-  take_word
-  need (same_bytes (codes "1")) NoHeader
-  take_word
-  pure tt
+abbrev pub is_argument : Word → Bool
+is_argument word = is_operand word || is_future word
 
-unfoldable pub kind_line : Scope → Parser What
-kind_line scope = do
-  room (length scope.kinds) 64
-  take_word
-  name ← read_new_name TwiceNamed scope.kinds
-  arguments ← each is_present (read_variable 16) []
-  pure (Kind name arguments)
+abbrev pub passed_of : Word → Passed
+passed_of word = if is_future word then passed.Future (drop 1 word) else passed.Number (term_of word)
 
-unfoldable pub var_line : Scope → Parser What
-var_line scope = do
-  take_word
-  variables ← one_or_more is_present (λ found. read_variable 255 (scope.variables ++ found))
-  pure (Var variables)
+-- a number or a future, of at most 16
+unfoldable pub read_argument : List Passed → Parser Passed
+read_argument found = do
+  need is_no_bad_number BadNumber
+  room (length found) 16
+  passed_of <$> take_word
 
--- the futures behind `holds`, where it is written
-unfoldable pub read_holds : Parser (List (List ℕ))
-read_holds = do
-  found ← eat (codes "holds")
-  if found then one_or_more is_future read_other_future else pure []
-
--- the futures behind `settled`, where the line does not end before it
-unfoldable pub read_settled : Parser (List (List ℕ))
-read_settled = do
-  word ← peek
-  if is_missing word then pure [] else fixed (codes "settled") >> one_or_more is_present read_other_future
-
-unfoldable pub state_line : Scope → Parser What
-state_line scope = do
-  room (length scope.states) 32
-  take_word
-  name ← read_new_name TwiceNamed scope.states
-  holds ← read_holds
-  settled ← read_settled
-  pure (State name holds settled)
-
-unfoldable pub end_line : Parser What
-end_line = take_word >> pure End
+-- a future, of at most 8
+unfoldable pub read_member : List (List ℕ) → Parser (List ℕ)
+read_member found = do
+  need is_future BadName
+  room (length found) 8
+  drop 1 <$> take_word
 
 abbrev pub is_root_argument : Word → Bool
 is_root_argument word = begins_with_digit word || is_future word
@@ -161,13 +133,25 @@ read_root_argument found = do
   room (length found) 16
   root_term_of <$> take_word
 
-unfoldable pub root_line : Scope → Parser What
-root_line scope = do
-  room (length scope.roots) 16
+-- the futures behind `holds`, where it is written
+unfoldable pub read_holds : Parser (List (List ℕ))
+read_holds = do
+  found ← eat (codes "holds")
+  if found then one_or_more is_future read_other_future else pure []
+
+-- the futures behind `settled`, where the line does not end before it
+unfoldable pub read_settled : Parser (List (List ℕ))
+read_settled = do
+  word ← peek
+  if is_missing word then pure [] else fixed (codes "settled") >> one_or_more is_present read_other_future
+
+-- ---- the header
+
+-- `ktask 1`
+unfoldable pub header_line : Parser (Unit {0})
+header_line = do
+  need (same_bytes (codes "ktask")) NoHeader
   take_word
-  name ← read_new_name TwiceNamed scope.roots
-  kind ← read_name
-  arguments ← each is_root_argument read_root_argument []
-  behind ← read_behind
-  priority ← read_last_priority
-  pure (Root name kind arguments behind priority)
+  need (same_bytes (codes "1")) NoHeader
+  take_word
+  pure tt

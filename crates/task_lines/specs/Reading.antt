@@ -13,7 +13,7 @@ use Rattle.task_lines.specs.declared.scope.Place.TheVariants.{Outside, Head, Cod
 use Rattle.task_lines.specs.declared.scope.Scope.{Scope}
 use Rattle.task_lines.specs.Scope.{first_scope, after}
 use Rattle.task_lines.specs.Line.{header_line}
-use Rattle.task_lines.specs.Steps.{read_line}
+use Rattle.task_lines.specs.Table.{read_line}
 
 -- a state that has begun ends before it may
 abbrev pub is_open_state : Place → Bool

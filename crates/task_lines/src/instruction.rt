@@ -1,10 +1,12 @@
 //! The lines that are instructions.
 
 ghost use Rattle.std.specs.Prelude.{Ok};
-ghost use Rattle.task_text.specs.Scan.{Scans, Reads, and_then, room, moved};
-ghost use Rattle.task_lines.specs.Steps as spec;
+ghost use Rattle.task_text.specs.Scan.{Scans, Reads, and_then, room, moved, read_new_name};
+ghost use Rattle.task_lines.specs.Table as spec;
+ghost use Rattle.task_lines.specs.Table.{keyword_line};
 
 use crate::item::What;
+use crate::keyword::Keyword;
 use crate::list::{read_arguments, read_members};
 use crate::part::{
     read_behind, read_last_priority, read_priority, read_relation, read_retry, read_term,
@@ -29,14 +31,14 @@ fn begin_step(scope: &Scope, words: &mut Words<'_>) -> Result<(), Fault>
 
 /// The name of a label that does not stand earlier in the state.
 fn read_target(scope: &Scope, words: &mut Words<'_>) -> Result<Name, Fault>
-    ensures { Scans (spec.read_target scope.now words.old) result words.new }
+    ensures { Scans (read_new_name Cause.BackLabel scope.now.labels words.old) result words.new }
 {
     words.read_new_name(Cause::BackLabel, scope.labels.as_slice())
 }
 
-#[tactic(auto, unfolding(crate::specs::Steps::step_line, crate::specs::Steps::read_set))]
+#[tactic(auto, unfolding(crate::specs::Table::keyword_line))]
 pub(crate) fn set_line(scope: &Scope, words: &mut Words<'_>) -> Result<What, Fault>
-    ensures { Scans (spec.step_line scope.now spec.read_set words.old) result words.new }
+    ensures { Scans (keyword_line scope.now Keyword.Set words.old) result words.new }
 {
     begin_step(scope, words)?;
     let to = words.read_name()?;
@@ -45,9 +47,9 @@ pub(crate) fn set_line(scope: &Scope, words: &mut Words<'_>) -> Result<What, Fau
     Ok(What::Step { step })
 }
 
-#[tactic(auto, unfolding(crate::specs::Steps::step_line, crate::specs::Steps::read_math))]
-pub(crate) fn math_line(scope: &Scope, op: MathOp, words: &mut Words<'_>) -> Result<What, Fault>
-    ensures { Scans (spec.step_line scope.now (spec.read_math op) words.old) result words.new }
+#[tactic(auto, unfolding(crate::specs::Table::operation_line))]
+fn operation_line(scope: &Scope, op: MathOp, words: &mut Words<'_>) -> Result<What, Fault>
+    ensures { Scans (spec.operation_line scope.now op words.old) result words.new }
 {
     begin_step(scope, words)?;
     let to = words.read_name()?;
@@ -62,9 +64,16 @@ pub(crate) fn math_line(scope: &Scope, op: MathOp, words: &mut Words<'_>) -> Res
     Ok(What::Step { step })
 }
 
-#[tactic(auto, unfolding(crate::specs::Steps::step_line, crate::specs::Steps::read_if))]
+#[tactic(auto, using(crate::proofs::Operations::operation_scans))]
+pub(crate) fn math_line(scope: &Scope, op: MathOp, words: &mut Words<'_>) -> Result<What, Fault>
+    ensures { Scans (keyword_line scope.now (spec.operation_keyword op) words.old) result words.new }
+{
+    operation_line(scope, op, words)
+}
+
+#[tactic(auto, unfolding(crate::specs::Table::keyword_line))]
 pub(crate) fn if_line(scope: &Scope, words: &mut Words<'_>) -> Result<What, Fault>
-    ensures { Scans (spec.step_line scope.now (spec.read_if scope.now) words.old) result words.new }
+    ensures { Scans (keyword_line scope.now Keyword.If words.old) result words.new }
 {
     begin_step(scope, words)?;
     let left = read_term(words)?;
@@ -81,9 +90,9 @@ pub(crate) fn if_line(scope: &Scope, words: &mut Words<'_>) -> Result<What, Faul
     Ok(What::Step { step })
 }
 
-#[tactic(auto, unfolding(crate::specs::Steps::step_line, crate::specs::Steps::read_goto))]
+#[tactic(auto, unfolding(crate::specs::Table::keyword_line))]
 pub(crate) fn goto_line(scope: &Scope, words: &mut Words<'_>) -> Result<What, Fault>
-    ensures { Scans (spec.step_line scope.now (spec.read_goto scope.now) words.old)
+    ensures { Scans (keyword_line scope.now Keyword.Goto words.old)
         result words.new }
 {
     begin_step(scope, words)?;
@@ -92,9 +101,9 @@ pub(crate) fn goto_line(scope: &Scope, words: &mut Words<'_>) -> Result<What, Fa
     Ok(What::Step { step })
 }
 
-#[tactic(auto, unfolding(crate::specs::Steps::step_line, crate::specs::Steps::read_label))]
+#[tactic(auto, unfolding(crate::specs::Table::keyword_line))]
 pub(crate) fn label_line(scope: &Scope, words: &mut Words<'_>) -> Result<What, Fault>
-    ensures { Scans (spec.step_line scope.now (spec.read_label scope.now) words.old)
+    ensures { Scans (keyword_line scope.now Keyword.Label words.old)
         result words.new }
 {
     begin_step(scope, words)?;
@@ -103,9 +112,9 @@ pub(crate) fn label_line(scope: &Scope, words: &mut Words<'_>) -> Result<What, F
     Ok(What::Step { step })
 }
 
-#[tactic(auto, unfolding(crate::specs::Steps::step_line, crate::specs::Steps::read_cell))]
+#[tactic(auto, unfolding(crate::specs::Table::keyword_line))]
 pub(crate) fn cell_line(scope: &Scope, words: &mut Words<'_>) -> Result<What, Fault>
-    ensures { Scans (spec.step_line scope.now spec.read_cell words.old) result words.new }
+    ensures { Scans (keyword_line scope.now Keyword.Cell words.old) result words.new }
 {
     begin_step(scope, words)?;
     let to = words.read_name()?;
@@ -115,9 +124,9 @@ pub(crate) fn cell_line(scope: &Scope, words: &mut Words<'_>) -> Result<What, Fa
     Ok(What::Step { step })
 }
 
-#[tactic(auto, unfolding(crate::specs::Steps::step_line, crate::specs::Steps::read_rows))]
+#[tactic(auto, unfolding(crate::specs::Table::keyword_line))]
 pub(crate) fn rows_line(scope: &Scope, words: &mut Words<'_>) -> Result<What, Fault>
-    ensures { Scans (spec.step_line scope.now spec.read_rows words.old) result words.new }
+    ensures { Scans (keyword_line scope.now Keyword.Rows words.old) result words.new }
 {
     begin_step(scope, words)?;
     let to = words.read_name()?;
@@ -126,13 +135,13 @@ pub(crate) fn rows_line(scope: &Scope, words: &mut Words<'_>) -> Result<What, Fa
     Ok(What::Step { step })
 }
 
-#[tactic(auto, unfolding(crate::specs::Steps::step_line, crate::specs::Steps::read_spawn))]
+#[tactic(auto, unfolding(crate::specs::Table::keyword_line))]
 pub(crate) fn spawn_line(
     alloc: Global,
     scope: &Scope,
     words: &mut Words<'_>,
 ) -> Result<What, TextError>
-    ensures { Reads (spec.step_line scope.now spec.read_spawn words.old) result words.new }
+    ensures { Reads (keyword_line scope.now Keyword.Spawn words.old) result words.new }
 {
     begin_step(scope, words)?;
     let to = words.read_future()?;
@@ -152,13 +161,13 @@ pub(crate) fn spawn_line(
     Ok(What::Step { step })
 }
 
-#[tactic(auto, unfolding(crate::specs::Steps::step_line, crate::specs::Steps::read_all))]
+#[tactic(auto, unfolding(crate::specs::Table::keyword_line))]
 pub(crate) fn all_line(
     alloc: Global,
     scope: &Scope,
     words: &mut Words<'_>,
 ) -> Result<What, TextError>
-    ensures { Reads (spec.step_line scope.now spec.read_all words.old) result words.new }
+    ensures { Reads (keyword_line scope.now Keyword.All words.old) result words.new }
 {
     begin_step(scope, words)?;
     let to = words.read_future()?;
@@ -174,9 +183,9 @@ pub(crate) fn all_line(
     Ok(What::Step { step })
 }
 
-#[tactic(auto, unfolding(crate::specs::Steps::step_line, crate::specs::Steps::read_copy))]
+#[tactic(auto, unfolding(crate::specs::Table::keyword_line))]
 pub(crate) fn copy_line(scope: &Scope, words: &mut Words<'_>) -> Result<What, Fault>
-    ensures { Scans (spec.step_line scope.now spec.read_copy words.old) result words.new }
+    ensures { Scans (keyword_line scope.now Keyword.Copy words.old) result words.new }
 {
     begin_step(scope, words)?;
     let to = words.read_future()?;
@@ -185,9 +194,9 @@ pub(crate) fn copy_line(scope: &Scope, words: &mut Words<'_>) -> Result<What, Fa
     Ok(What::Step { step })
 }
 
-#[tactic(auto, unfolding(crate::specs::Steps::step_line, crate::specs::Steps::read_drop))]
+#[tactic(auto, unfolding(crate::specs::Table::keyword_line))]
 pub(crate) fn drop_line(scope: &Scope, words: &mut Words<'_>) -> Result<What, Fault>
-    ensures { Scans (spec.step_line scope.now spec.read_drop words.old) result words.new }
+    ensures { Scans (keyword_line scope.now Keyword.Drop words.old) result words.new }
 {
     begin_step(scope, words)?;
     let future = words.read_future()?;
@@ -195,9 +204,9 @@ pub(crate) fn drop_line(scope: &Scope, words: &mut Words<'_>) -> Result<What, Fa
     Ok(What::Step { step })
 }
 
-#[tactic(auto, unfolding(crate::specs::Steps::step_line, crate::specs::Steps::read_get))]
+#[tactic(auto, unfolding(crate::specs::Table::keyword_line))]
 pub(crate) fn get_line(scope: &Scope, words: &mut Words<'_>) -> Result<What, Fault>
-    ensures { Scans (spec.step_line scope.now spec.read_get words.old) result words.new }
+    ensures { Scans (keyword_line scope.now Keyword.Get words.old) result words.new }
 {
     begin_step(scope, words)?;
     let to = words.read_name()?;
@@ -206,9 +215,9 @@ pub(crate) fn get_line(scope: &Scope, words: &mut Words<'_>) -> Result<What, Fau
     Ok(What::Step { step })
 }
 
-#[tactic(auto, unfolding(crate::specs::Steps::step_line, crate::specs::Steps::read_again))]
+#[tactic(auto, unfolding(crate::specs::Table::keyword_line))]
 pub(crate) fn again_line(scope: &Scope, words: &mut Words<'_>) -> Result<What, Fault>
-    ensures { Scans (spec.step_line scope.now spec.read_again words.old) result words.new }
+    ensures { Scans (keyword_line scope.now Keyword.Again words.old) result words.new }
 {
     begin_step(scope, words)?;
     let target = words.read_name()?;
@@ -222,9 +231,9 @@ pub(crate) fn again_line(scope: &Scope, words: &mut Words<'_>) -> Result<What, F
     Ok(What::Step { step })
 }
 
-#[tactic(auto, unfolding(crate::specs::Steps::step_line, crate::specs::Steps::read_done))]
+#[tactic(auto, unfolding(crate::specs::Table::keyword_line))]
 pub(crate) fn done_line(scope: &Scope, words: &mut Words<'_>) -> Result<What, Fault>
-    ensures { Scans (spec.step_line scope.now spec.read_done words.old) result words.new }
+    ensures { Scans (keyword_line scope.now Keyword.Done words.old) result words.new }
 {
     begin_step(scope, words)?;
     let value = read_term(words)?;

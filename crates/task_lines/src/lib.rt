@@ -1,8 +1,9 @@
 //! The lines of the task language: each row of words is read to an item, with names as they are
 //! written.
 //!
-//! `specs/Line.antt` says how each line is read, `specs/Reading.antt` how a text is, and
-//! `specs/Grammar.antt` which lines there are and where they may stand, apart from how they are read.
+//! `specs/Table.antt` is the table of the language: which parts each line has, how they are read and
+//! which words spell them. `specs/Reading.antt` says how a text is read, and `specs/Grammar.antt`
+//! where lines may stand, apart from how they are read.
 #![tactic(auto)]
 
 mod instruction;

@@ -3,8 +3,10 @@
 ghost use Rattle.std.specs.Prelude.{◌≡◌, Ok};
 ghost use Rattle.task_text.specs.Scan.{Scans, Reads};
 ghost use Rattle.task_lines.specs.Line as spec;
+ghost use Rattle.task_lines.specs.Table.{keyword_line};
 
 use crate::item::What;
+use crate::keyword::Keyword;
 use crate::list::{
     further_variables, read_futures, read_kind_arguments, read_last_futures, read_root_arguments,
 };
@@ -34,13 +36,13 @@ pub(crate) fn header_line(words: &mut Words<'_>) -> Result<(), Fault>
     Ok(())
 }
 
-#[tactic(auto, unfolding(crate::specs::Line::kind_line))]
+#[tactic(auto, unfolding(crate::specs::Table::keyword_line))]
 pub(crate) fn kind_line(
     alloc: Global,
     scope: &Scope,
     words: &mut Words<'_>,
 ) -> Result<What, TextError>
-    ensures { Reads (spec.kind_line scope.now words.old) result words.new }
+    ensures { Reads (keyword_line scope.now Keyword.Kind words.old) result words.new }
 {
     words.room(scope.kinds.len(), MOST_KINDS)?;
     words.take_word();
@@ -49,13 +51,13 @@ pub(crate) fn kind_line(
     Ok(What::Kind { name, arguments })
 }
 
-#[tactic(auto, unfolding(crate::specs::Line::var_line))]
+#[tactic(auto, unfolding(crate::specs::Table::keyword_line))]
 pub(crate) fn var_line(
     alloc: Global,
     scope: &Scope,
     words: &mut Words<'_>,
 ) -> Result<What, TextError>
-    ensures { Reads (spec.var_line scope.now words.old) result words.new }
+    ensures { Reads (keyword_line scope.now Keyword.Var words.old) result words.new }
 {
     words.take_word();
     let before = scope.variables.as_slice();
@@ -89,13 +91,13 @@ fn read_settled(alloc: Global, words: &mut Words<'_>) -> Result<List<Name>, Text
     read_last_futures(alloc, words)
 }
 
-#[tactic(auto, unfolding(crate::specs::Line::state_line))]
+#[tactic(auto, unfolding(crate::specs::Table::keyword_line))]
 pub(crate) fn state_line(
     alloc: Global,
     scope: &Scope,
     words: &mut Words<'_>,
 ) -> Result<What, TextError>
-    ensures { Reads (spec.state_line scope.now words.old) result words.new }
+    ensures { Reads (keyword_line scope.now Keyword.State words.old) result words.new }
 {
     words.room(scope.states.len(), MOST_STATES)?;
     words.take_word();
@@ -109,21 +111,21 @@ pub(crate) fn state_line(
     })
 }
 
-#[tactic(auto, unfolding(crate::specs::Line::end_line))]
-pub(crate) fn end_line(words: &mut Words<'_>) -> What
-    ensures { spec.end_line words.old ≡ Ok (result, words.new) }
+#[tactic(auto, unfolding(crate::specs::Table::keyword_line))]
+pub(crate) fn end_line(scope: &Scope, words: &mut Words<'_>) -> What
+    ensures { keyword_line scope.now Keyword.End words.old ≡ Ok (result, words.new) }
 {
     words.take_word();
     What::End
 }
 
-#[tactic(auto, unfolding(crate::specs::Line::root_line))]
+#[tactic(auto, unfolding(crate::specs::Table::keyword_line))]
 pub(crate) fn root_line(
     alloc: Global,
     scope: &Scope,
     words: &mut Words<'_>,
 ) -> Result<What, TextError>
-    ensures { Reads (spec.root_line scope.now words.old) result words.new }
+    ensures { Reads (keyword_line scope.now Keyword.Root words.old) result words.new }
 {
     words.room(scope.roots.len(), MOST_ROOTS)?;
     words.take_word();

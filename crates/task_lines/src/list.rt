@@ -4,7 +4,6 @@ ghost use Rattle.std.specs.Prelude.{[], ◌++◌};
 ghost use Rattle.task_text.specs.Scan.{Reads, each, one_or_more};
 ghost use Rattle.task_text.specs.Scan as scan;
 ghost use Rattle.task_lines.specs.Line as line;
-ghost use Rattle.task_lines.specs.Steps as steps;
 
 use crate::item::RootTerm;
 use crate::part::{
@@ -93,7 +92,7 @@ pub(crate) fn read_arguments(
     alloc: Global,
     words: &mut Words<'_>,
 ) -> Result<List<Passed>, TextError>
-    ensures { Reads (each steps.is_argument steps.read_argument [] words.old) result words.new }
+    ensures { Reads (each line.is_argument line.read_argument [] words.old) result words.new }
 {
     let mut found = List::new(alloc);
     'words: while is_argument(words.peek()) {
@@ -104,7 +103,7 @@ pub(crate) fn read_arguments(
 
 /// Members of an aggregate, behind those found.
 fn further_members(mut found: List<Name>, words: &mut Words<'_>) -> Result<List<Name>, TextError>
-    ensures { Reads (each scan.is_future steps.read_member found words.old) result words.new }
+    ensures { Reads (each scan.is_future line.read_member found words.old) result words.new }
 {
     'words: while is_future(words.peek()) {
         found.push(read_member(found.as_slice(), words)?)?;
@@ -114,7 +113,7 @@ fn further_members(mut found: List<Name>, words: &mut Words<'_>) -> Result<List<
 
 /// The members of an aggregate.
 pub(crate) fn read_members(alloc: Global, words: &mut Words<'_>) -> Result<List<Name>, TextError>
-    ensures { Reads (one_or_more scan.is_future steps.read_member words.old) result words.new }
+    ensures { Reads (one_or_more scan.is_future line.read_member words.old) result words.new }
 {
     let mut found = List::new(alloc);
     found.push(read_member(found.as_slice(), words)?)?;

@@ -4,7 +4,6 @@ ghost use Rattle.std.specs.Prelude.{◌≡◌, ◌++◌, drop, length, IsTrue, I
 ghost use Rattle.task_text.specs.Scan as scan;
 ghost use Rattle.task_text.specs.Scan.{Scans, seen, moved};
 ghost use Rattle.task_lines.specs.Line as spec;
-ghost use Rattle.task_lines.specs.Steps as steps;
 
 use crate::item::RootTerm;
 use crate::keyword::{priority_of, relation_of};
@@ -119,7 +118,7 @@ pub(crate) fn read_other_future(taken: &[Name], words: &mut Words<'_>) -> Result
 
 /// Whether a word stands for what a spawn passes.
 pub(crate) fn is_argument(word: &[u8]) -> bool
-    ensures { result ≡ steps.is_argument word.now }
+    ensures { result ≡ spec.is_argument word.now }
 {
     is_operand(word) || is_future(word)
 }
@@ -139,9 +138,9 @@ fn term_of(word: &[u8]) -> Term
 
 /// What a word stands for that a spawn passes.
 fn passed_of(word: &[u8]) -> Passed
-    requires argument { IsTrue (steps.is_argument word.now) }
+    requires argument { IsTrue (spec.is_argument word.now) }
     requires number { IsTrue (scan.is_no_bad_number word.now) }
-    ensures { result ≡ steps.passed_of word.now }
+    ensures { result ≡ spec.passed_of word.now }
 {
     if is_future(word) {
         Passed::Future(Name::new(future_name(word)))
@@ -151,10 +150,10 @@ fn passed_of(word: &[u8]) -> Passed
 }
 
 /// A number or a future that a spawn passes, behind those found before.
-#[tactic(auto, unfolding(crate::specs::Steps::read_argument, task_text::specs::Scan::need))]
+#[tactic(auto, unfolding(crate::specs::Line::read_argument, task_text::specs::Scan::need))]
 pub(crate) fn read_argument(found: &[Passed], words: &mut Words<'_>) -> Result<Passed, Fault>
-    requires { IsTrue (steps.is_argument (seen words.old)) }
-    ensures read { Scans (steps.read_argument found.now words.old) result words.new }
+    requires { IsTrue (spec.is_argument (seen words.old)) }
+    ensures read { Scans (spec.read_argument found.now words.old) result words.new }
     ensures next { IfOk result (λ _. words.new ≡ moved words.old) }
 {
     let word = words.peek();
@@ -165,9 +164,9 @@ pub(crate) fn read_argument(found: &[Passed], words: &mut Words<'_>) -> Result<P
 }
 
 /// A member of an aggregate, behind those found before.
-#[tactic(auto, unfolding(crate::specs::Steps::read_member, task_text::specs::Scan::need, task_text::specs::Scan::read_future))]
+#[tactic(auto, unfolding(crate::specs::Line::read_member, task_text::specs::Scan::need, task_text::specs::Scan::read_future))]
 pub(crate) fn read_member(found: &[Name], words: &mut Words<'_>) -> Result<Name, Fault>
-    ensures read { Scans (steps.read_member found.now words.old) result words.new }
+    ensures read { Scans (spec.read_member found.now words.old) result words.new }
     ensures next { IfOk result (λ _. words.new ≡ moved words.old) }
 {
     words.need(is_future(words.peek()), Cause::BadName)?;

@@ -1,7 +1,8 @@
 //! The items of a text.
 
-ghost use Rattle.std.specs.Prelude.{◌≡◌, ◌+◌, ◌<◌, ◌^◌, Ok, Err, length, drop, IfOk, MatchResult};
-ghost use Rattle.task_text.specs.Fault.{Gives};
+ghost use Rattle.std.specs.Prelude.{◌≡◌, ◌≢◌, ◌+◌, ◌<◌, ◌^◌, Ok, Err};
+ghost use Rattle.std.specs.Prelude.{length, drop, IfOk, MatchResult};
+ghost use Rattle.task_text.specs.Fault.{Gives, fault_at};
 ghost use Rattle.task_lines.specs.Scope.{first_scope, after};
 ghost use Rattle.task_lines.specs.Reading as spec;
 
@@ -55,6 +56,21 @@ fn next_item(alloc: Global, scope: &mut Scope, words: &mut Words<'_>) -> Result<
     Ok(Item { line, what })
 }
 
+/// No kind is open at the end of a text that has `last` lines.
+fn must_be_closed(place: Place, last: u32) -> Result<(), Fault>
+    ensures { MatchResult result (λ _. place ≡ Place.Outside)
+        (λ fault. (place ≢ Place.Outside) × fault ≡ fault_at Cause.NoEnd last 0) }
+{
+    match place {
+        Place::Outside => Ok(()),
+        _ => Err(Fault {
+            cause: Cause::NoEnd,
+            line: last,
+            word: 0,
+        }),
+    }
+}
+
 /// The items of the rows that are left of a text that has `last` lines.
 fn items_from(alloc: Global, last: u32, rows: &mut Rows<'_>) -> Result<List<Item>, TextError>
     requires { length rows.old < 2 ^ 32 }
@@ -65,14 +81,8 @@ fn items_from(alloc: Global, last: u32, rows: &mut Rows<'_>) -> Result<List<Item
     'rows: while let Some(mut words) = rows.next_row() {
         items.push(next_item(alloc, &mut scope, &mut words)?)?;
     }
-    match scope.place {
-        Place::Outside => Ok(items),
-        _ => Err(TextError::Fault(Fault {
-            cause: Cause::NoEnd,
-            line: last,
-            word: 0,
-        })),
-    }
+    must_be_closed(scope.place, last)?;
+    Ok(items)
 }
 
 /// The items of a text, or its first fault but an unknown name.

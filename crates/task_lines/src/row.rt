@@ -3,7 +3,7 @@
 ghost use Rattle.std.specs.Prelude.{◌≡◌, Some};
 ghost use Rattle.task_text.specs.Fault.{Gives};
 ghost use Rattle.task_text.specs.Scan.{Reads, and_then, ended};
-ghost use Rattle.task_lines.specs.Steps as steps;
+ghost use Rattle.task_lines.specs.Table as table;
 ghost use Rattle.task_lines.specs.Reading as spec;
 
 use crate::instruction::{
@@ -25,13 +25,13 @@ fn line_by(
     keyword: Keyword,
     words: &mut Words<'_>,
 ) -> Result<What, TextError>
-    ensures { Reads (steps.line_by scope.now (Some keyword) words.old) result words.new }
+    ensures { Reads (table.line_by scope.now (Some keyword) words.old) result words.new }
 {
     match keyword {
         Keyword::Kind => kind_line(alloc, scope, words),
         Keyword::Var => var_line(alloc, scope, words),
         Keyword::State => state_line(alloc, scope, words),
-        Keyword::End => Ok(end_line(words)),
+        Keyword::End => Ok(end_line(scope, words)),
         Keyword::Root => root_line(alloc, scope, words),
         Keyword::Label => Ok(label_line(scope, words)?),
         Keyword::Set => Ok(set_line(scope, words)?),
@@ -54,9 +54,9 @@ fn line_by(
     }
 }
 
-#[tactic(auto, unfolding(crate::specs::Steps::read_line))]
+#[tactic(auto, unfolding(crate::specs::Table::read_line))]
 fn read_line(alloc: Global, scope: &Scope, words: &mut Words<'_>) -> Result<What, TextError>
-    ensures { Reads (steps.read_line scope.now words.old) result words.new }
+    ensures { Reads (table.read_line scope.now words.old) result words.new }
 {
     match opening(scope.place, words.peek()) {
         Some(keyword) => line_by(alloc, scope, keyword, words),
@@ -67,7 +67,7 @@ fn read_line(alloc: Global, scope: &Scope, words: &mut Words<'_>) -> Result<What
 /// The line, and nothing behind it.
 #[tactic(auto, unfolding(task_text::specs::Scan::need))]
 fn whole_line(alloc: Global, scope: &Scope, words: &mut Words<'_>) -> Result<What, TextError>
-    ensures { Reads (and_then (steps.read_line scope.now words.old) ended) result words.new }
+    ensures { Reads (and_then (table.read_line scope.now words.old) ended) result words.new }
 {
     let what = read_line(alloc, scope, words)?;
     words.ended()?;

@@ -1,15 +1,6 @@
 -- What is looked for ahead is what the definitions list.
-use Rattle.std.proofs.Common.{◌≡◌, ◌≤◌, ℕ, ◌+◌, Bool, true, false, cond, not, ◌||◌, List, [], ◌∷◌, ◌++◌, take, length, refl, sym, ◌∙◌, arith}
-use Rattle.std.specs.List.{list_any, prefix_len, take_while}
-use Rattle.std.proofs.Math.Numerals.{one-add}
-use Rattle.std.proofs.lemmas.List.Folds.{length-prefix_len, list_any-append}
-use Rattle.task_syntax.specs.Names.{same_bytes}
-use Rattle.task_text.specs.Scan.{is_among}
-use Rattle.task_lines.specs.declared.step.Step.{Step}
-use Rattle.task_lines.specs.declared.step.Step.TheVariants.{Label}
-use Rattle.task_lines.specs.declared.item.What.{What}
+use Rattle.task_reader.proofs.Vocabulary.{◌≡◌, ◌≤◌, ℕ, ◌+◌, Bool, true, false, cond, not, ◌||◌, List, [], ◌∷◌, ◌++◌, take, length, refl, sym, ◌∙◌, arith, list_any, prefix_len, take_while, one-add, length-prefix_len, list_any-append, same_bytes, is_among, Step, Label, What, Item}
 use Rattle.task_lines.specs.declared.item.What.TheVariants as what
-use Rattle.task_lines.specs.declared.item.Item.{Item}
 use Rattle.task_reader.specs.Names.{step_label, label_names, state_names}
 use Rattle.task_reader.specs.Program.{is_label, steps_to}
 use Rattle.task_reader.specs.Fits.{steps_ahead}

@@ -1,30 +1,7 @@
 -- Each line of the language is read as its entry in the table asks.
-use Rattle.std.proofs.Common.{◌≡◌, ℕ, Bool, true, false, cond, Option, Some, None, List, [], ◌∷◌, ◌++◌, length, drop, Ok, Err, refl, sym, ◌∙◌, ap, subst}
-use Rattle.std.specs.Prelude.{IsSome, nat_lt, is_some, codes, if◌then◌else◌}
-use Rattle.std.proofs.lemmas.List.{length-map}
-use Rattle.task_syntax.specs.Names.{same_bytes}
-use Rattle.task_syntax.specs.declared.program.Variable.{Variable}
-use Rattle.task_syntax.specs.declared.instr.MathOp.{MathOp}
-use Rattle.task_syntax.specs.declared.instr.MathOp.TheVariants as op
-use Rattle.task_syntax.specs.declared.value.Priority.{Priority}
-use Rattle.task_syntax.specs.declared.value.Priority.TheVariants.{Regular}
-use Rattle.task_text.specs.declared.fault.Cause.{Cause}
-use Rattle.task_text.specs.declared.fault.Cause.TheVariants.{NoHeader, UnknownWord, BadName, BadNumber, TwiceNamed, TooMany, BackLabel}
-use Rattle.task_text.specs.declared.fault.Fault.{Fault}
-use Rattle.task_text.specs.Text.{Word}
-use Rattle.task_text.specs.Scan.{is_missing, is_present, is_future, is_no_bad_number, Scan, seen, moved, fault_here, Outcome, Parser, and_then, ◌>>=◌, ◌>>◌, pure, take_word, refuse, need, room, fixed, read_name, read_new_name, read_future, eat, each, one_or_more}
-use Rattle.task_lines.specs.declared.step.Step.{Step}
-use Rattle.task_lines.specs.declared.step.Step.TheVariants.{Set, Math, If, Goto, Label, Cell, Rows, Spawn, All, Copy, Drop, Get, Again, Done}
-use Rattle.task_lines.specs.declared.item.What.{What}
-use Rattle.task_lines.specs.declared.item.What.TheVariants as what
-use Rattle.task_lines.specs.declared.keyword.Keyword.{Keyword}
-use Rattle.task_lines.specs.declared.keyword.Keyword.TheVariants as k
-use Rattle.task_lines.specs.declared.scope.Place.{Place}
-use Rattle.task_lines.specs.declared.scope.Scope.{Scope}
-use Rattle.task_lines.specs.Keyword.{opening, relation_of, priority_of}
-use Rattle.task_lines.specs.Line.{term_of, read_term, variable_of, read_variable, read_other_future, read_behind, priority_by, read_priority, last_priority_by, read_last_priority, read_retry, relation_by, read_relation, header_line, kind_line, var_line, read_holds, read_settled, state_line, end_line, is_root_argument, root_term_of, read_root_argument, root_line}
-use Rattle.task_lines.specs.Steps.{read_target, read_set, read_math, read_if, read_goto, read_label, read_cell, read_rows, is_argument, passed_of, read_argument, read_spawn, read_member, read_all, read_copy, read_drop, read_get, read_again, read_done, step_line, line_by, read_line}
-use Rattle.task_reader.specs.Asked.{Test, Asked, End, One, Many, failed_by, this_word, a_name, a_future, new_name, an_operand, is_relation, is_priority, within, opens, a_variable, other_future, an_argument, a_member, at_least_one, where_word, behind_part, priority_part, last_priority_part, retry_part, holds_part, settled_part, header_asked, step_asked, keyword_asked, opened_by, line_asked}
+use Rattle.task_reader.proofs.Vocabulary.{◌≡◌, ℕ, Bool, true, false, cond, Option, Some, None, List, [], ◌∷◌, ◌++◌, length, drop, Ok, Err, refl, sym, ◌∙◌, ap, subst, IsSome, nat_lt, is_some, codes, if◌then◌else◌, length-map, same_bytes, Variable, Priority, Regular, Cause, NoHeader, UnknownWord, BadName, BadNumber, TwiceNamed, TooMany, BackLabel, Fault, Word, is_missing, is_present, is_future, is_no_bad_number, Scan, seen, moved, fault_here, Outcome, Parser, and_then, pure, take_word, refuse, need, room, fixed, read_name, read_new_name, read_future, eat, each, one_or_more, What, Keyword, Place, Scope, opening, relation_of, priority_of, term_of, read_term, variable_of, read_variable, read_other_future, read_behind, priority_by, read_priority, last_priority_by, read_last_priority, read_retry, relation_by, read_relation, header_line, read_holds, read_settled, is_root_argument, root_term_of, read_root_argument, is_argument, passed_of, read_argument, read_member, Part, GotoWord, AName, ANewName, ATarget, ATerm, ARelation, AFuture, KindVariables, MoreVariables, Arguments, RootArguments, Members, HeldFutures, SettledFutures, Predecessor, APriority, LastPriority, ARetry, Values, names_of, read_part, read_parts, parts_of, line_of_parts, counted, begun, keyword_line, line_by, read_line}
+use Rattle.task_text.specs.Scan.{◌>>=◌, ◌>>◌}
+use Rattle.task_reader.specs.Asked.{Test, Asked, End, One, Many, failed_by, this_word, a_name, a_future, new_name, an_operand, is_relation, is_priority, within, opens, a_variable, other_future, an_argument, a_member, at_least_one, where_word, behind_part, priority_part, last_priority_part, retry_part, holds_part, settled_part, header_asked, keyword_asked, opened_by, line_asked, part_asked, parts_asked}
 use Rattle.task_reader.proofs.AskedWords.{Agrees, FollowsAt, Follows, ItemTested, tested, then-at, then-follows, pure-follows, map-follows, word-follows, by-agrees, where-follows, at-same, taken-at, refused-at, each-follows, some-follows}
 
 -- ---- words
@@ -158,94 +135,44 @@ settled-follows s = missing-or read_settled [] (fixed (codes "settled") >> one_o
     (then-follows (fixed (codes "settled")) (λ _. one_or_more is_present read_other_future) (One (this_word (codes "settled"))) (at_least_one is_present other_future)
     (fixed-follows (codes "settled") refl) (λ _. futures-follow is_present refl) s)
 
--- ---- instructions
+-- ---- parts
 
-set-follows : Follows read_set (λ next. One a_name (One an_operand next))
-unfolding read_set
-set-follows = then-follows read_name _ (One a_name) (One an_operand) name-follows (λ to. map-follows read_term (λ value. Set to value) (One an_operand) term-follows)
+part-follows : (scope : Scope) (part : Part) → Follows (read_part scope part) (part_asked scope part)
+part-follows scope GotoWord = fixed-follows (codes "goto") refl
+part-follows scope AName = name-follows
+part-follows scope (ANewName named) = new-name-follows TwiceNamed (names_of scope named)
+part-follows scope ATarget = new-name-follows BackLabel scope.labels
+part-follows scope ATerm = term-follows
+part-follows scope ARelation = relation-follows
+part-follows scope AFuture = future-follows
+part-follows scope KindVariables = each-follows is_present (read_variable 16) (a_variable 16 []) variable_of argument-variable-tested refl []
+part-follows scope MoreVariables =
+    some-follows is_present (λ found. read_variable 255 (scope.variables ++ found)) (a_variable 255 scope.variables) variable_of (variable-tested 255 scope.variables) refl refl
+part-follows scope Arguments = each-follows is_argument read_argument an_argument passed_of argument-tested refl []
+part-follows scope RootArguments = each-follows is_root_argument read_root_argument an_argument root_term_of root-argument-tested refl []
+part-follows scope Members = some-follows is_future read_member a_member (drop 1) member-tested refl refl
+part-follows scope HeldFutures = holds-follows
+part-follows scope SettledFutures = settled-follows
+part-follows scope Predecessor = behind-follows
+part-follows scope APriority = priority-follows
+part-follows scope LastPriority = last-priority-follows
+part-follows scope ARetry = retry-follows
 
-math-follows : (operation : MathOp) → Follows (read_math operation) (λ next. One a_name (One an_operand (One an_operand next)))
-unfolding read_math
-math-follows operation = then-follows read_name _ (One a_name) (λ next. One an_operand (One an_operand next)) name-follows
-    (λ to. then-follows read_term _ (One an_operand) (One an_operand) term-follows
-    (λ left. map-follows read_term (λ right. Math operation to left right) (One an_operand) term-follows))
-
-if-follows : (scope : Scope) → Follows (read_if scope) (λ next. One an_operand (One ((is_relation, UnknownWord) ∷ []) (One an_operand (One (this_word (codes "goto")) (One (new_name BackLabel scope.labels) next)))))
-unfolding read_if
-if-follows scope = then-follows read_term _ (One an_operand) (λ next. One ((is_relation, UnknownWord) ∷ []) (One an_operand (One (this_word (codes "goto")) (One (new_name BackLabel scope.labels) next)))) term-follows
-    (λ left. then-follows read_relation _ (One ((is_relation, UnknownWord) ∷ [])) (λ next. One an_operand (One (this_word (codes "goto")) (One (new_name BackLabel scope.labels) next))) relation-follows
-    (λ relation. then-follows read_term _ (One an_operand) (λ next. One (this_word (codes "goto")) (One (new_name BackLabel scope.labels) next)) term-follows
-    (λ right. then-follows (fixed (codes "goto")) _ (One (this_word (codes "goto"))) (One (new_name BackLabel scope.labels)) (fixed-follows (codes "goto") refl)
-    (λ _. map-follows (read_target scope) (λ target. If relation left right target) (One (new_name BackLabel scope.labels)) (new-name-follows BackLabel scope.labels)))))
-
-goto-follows : (scope : Scope) → Follows (read_goto scope) (One (new_name BackLabel scope.labels))
-unfolding read_goto
-goto-follows scope = map-follows (read_target scope) (λ target. Goto target) (One (new_name BackLabel scope.labels)) (new-name-follows BackLabel scope.labels)
-
-label-follows : (scope : Scope) → Follows (read_label scope) (One (new_name TwiceNamed scope.labels))
-unfolding read_label
-label-follows scope = map-follows (read_new_name TwiceNamed scope.labels) (λ name. Label name) (One (new_name TwiceNamed scope.labels)) (new-name-follows TwiceNamed scope.labels)
-
-cell-follows : Follows read_cell (λ next. One a_name (One a_name (One an_operand next)))
-unfolding read_cell
-cell-follows = then-follows read_name _ (One a_name) (λ next. One a_name (One an_operand next)) name-follows
-    (λ to. then-follows read_name _ (One a_name) (One an_operand) name-follows (λ column. map-follows read_term (λ row. Cell to column row) (One an_operand) term-follows))
-
-rows-follows : Follows read_rows (λ next. One a_name (One a_name next))
-unfolding read_rows
-rows-follows = then-follows read_name _ (One a_name) (One a_name) name-follows (λ to. map-follows read_name (λ column. Rows to column) (One a_name) name-follows)
-
-arguments-follow : Follows (each is_argument read_argument []) (Many is_argument an_argument [])
-arguments-follow = each-follows is_argument read_argument an_argument passed_of argument-tested refl []
-
-spawn-follows : Follows read_spawn (λ next. One a_future (One a_name (Many is_argument an_argument [] (behind_part (priority_part (retry_part next))))))
-unfolding read_spawn
-spawn-follows = then-follows read_future _ (One a_future) (λ next. One a_name (Many is_argument an_argument [] (behind_part (priority_part (retry_part next))))) future-follows
-    (λ to. then-follows read_name _ (One a_name) (λ next. Many is_argument an_argument [] (behind_part (priority_part (retry_part next)))) name-follows
-    (λ kind. then-follows (each is_argument read_argument []) _ (Many is_argument an_argument []) (λ next. behind_part (priority_part (retry_part next))) arguments-follow
-    (λ arguments. then-follows read_behind _ behind_part (λ next. priority_part (retry_part next)) behind-follows
-    (λ behind. then-follows read_priority _ priority_part retry_part priority-follows
-    (λ priority. map-follows read_retry (λ retry. Spawn to kind arguments behind priority retry) retry_part retry-follows)))))
-
-all-follows : Follows read_all (λ next. One a_future (at_least_one is_future a_member (priority_part (retry_part next))))
-unfolding read_all
-all-follows = then-follows read_future _ (One a_future) (λ next. at_least_one is_future a_member (priority_part (retry_part next))) future-follows
-    (λ to. then-follows (one_or_more is_future read_member) _ (at_least_one is_future a_member) (λ next. priority_part (retry_part next))
-    (some-follows is_future read_member a_member (drop 1) member-tested refl refl)
-    (λ members. then-follows read_priority _ priority_part retry_part priority-follows
-    (λ priority. map-follows read_retry (λ retry. All to members priority retry) retry_part retry-follows)))
-
-copy-follows : Follows read_copy (λ next. One a_future (One a_future next))
-unfolding read_copy
-copy-follows = then-follows read_future _ (One a_future) (One a_future) future-follows (λ to. map-follows read_future (λ source. Copy to source) (One a_future) future-follows)
-
-drop-follows : Follows read_drop (One a_future)
-unfolding read_drop
-drop-follows = map-follows read_future (λ future. Drop future) (One a_future) future-follows
-
-get-follows : Follows read_get (λ next. One a_name (One a_future next))
-unfolding read_get
-get-follows = then-follows read_name _ (One a_name) (One a_future) name-follows (λ to. map-follows read_future (λ future. Get to future) (One a_future) future-follows)
-
-again-follows : Follows read_again (λ next. One a_name (behind_part (last_priority_part next)))
-unfolding read_again
-again-follows = then-follows read_name _ (One a_name) (λ next. behind_part (last_priority_part next)) name-follows
-    (λ target. then-follows read_behind _ behind_part last_priority_part behind-follows
-    (λ behind. map-follows read_last_priority (λ priority. Again target behind priority) last_priority_part last-priority-follows))
-
-done-follows : Follows read_done (One an_operand)
-unfolding read_done
-done-follows = map-follows read_term (λ value. Done value) (One an_operand) term-follows
+-- the parts of a line are read as they are asked, one after the other
+parts-follow : {A : Type 0} (scope : Scope) (ps : List Part) (make : Values ps → A) → Follows (read_parts scope ps make) (parts_asked scope ps)
+parts-follow scope [] make = pure-follows (make tt)
+parts-follow scope (part ∷ ps) make =
+    then-follows (read_part scope part) _ (part_asked scope part) (parts_asked scope ps) (part-follows scope part) (λ v. parts-follow scope ps (λ vs. make (v, vs)))
 
 -- ---- lines
 
 -- a first word that is there opens one of at most so many
 open-at : {A : Type 0} (count limit : ℕ) (q : Parser A) (part : Asked → Asked) (s : Scan) → is_present (seen s) ≡ true → Follows q part
-    → FollowsAt (room count limit >> (take_word >> q)) (λ next. One (opens count limit) (part next)) s
+    → FollowsAt (room count limit >> (take_word >> q)) (λ next. One (opens (Some (count, limit))) (part next)) s
 unfolding room need
 open-at {A} count limit q part s there h =
-    at-same (room count limit >> (take_word >> q)) (tested (opens count limit) (λ w. w) >>= (λ _. q)) (λ next. One (opens count limit) (part next)) s (by (nat_lt count limit))
-    (then-follows (tested (opens count limit) (λ w. w)) (λ _. q) (One (opens count limit)) part (word-follows (opens count limit) (λ w. w) refl) (λ _. h) s) where
+    at-same (room count limit >> (take_word >> q)) (tested (opens (Some (count, limit))) (λ w. w) >>= (λ _. q)) (λ next. One (opens (Some (count, limit))) (part next)) s (by (nat_lt count limit))
+    (then-follows (tested (opens (Some (count, limit))) (λ w. w)) (λ _. q) (One (opens (Some (count, limit)))) part (word-follows (opens (Some (count, limit))) (λ w. w) refl) (λ _. h) s) where
       fault : Fault
       fault = fault_here TooMany s
 
@@ -260,69 +187,17 @@ first-at : {A : Type 0} (q : Parser A) (part : Asked → Asked) (s : Scan) → i
 first-at q part s there h = then-at take_word (λ _. q) (One ((is_present, UnknownWord) ∷ [])) part s
     (taken-at ((is_present, UnknownWord) ∷ []) (λ w. w) s (ap (λ b. cond b None (Some UnknownWord)) there) refl) (λ a t e. h t)
 
-step-at : (scope : Scope) (read : Parser Step) (part : Asked → Asked) (s : Scan) → is_present (seen s) ≡ true → Follows read part
-    → FollowsAt (step_line scope read) (λ next. step_asked scope (part next)) s
-unfolding step_line
-step-at scope read part s there h = open-at scope.steps 64 (read >>= (λ step. pure (what.Step step))) part s there (map-follows read (λ step. what.Step step) part h)
-
-kind-at : (scope : Scope) (s : Scan) → is_present (seen s) ≡ true → FollowsAt (kind_line scope) (λ next. One (opens (length scope.kinds) 64) (One (new_name TwiceNamed scope.kinds) (Many is_present (a_variable 16 []) [] next))) s
-unfolding kind_line
-kind-at scope s there = open-at (length scope.kinds) 64 _ (λ next. One (new_name TwiceNamed scope.kinds) (Many is_present (a_variable 16 []) [] next)) s there
-    (then-follows (read_new_name TwiceNamed scope.kinds) _ (One (new_name TwiceNamed scope.kinds)) (Many is_present (a_variable 16 []) []) (new-name-follows TwiceNamed scope.kinds)
-    (λ name. map-follows (each is_present (read_variable 16) []) (λ arguments. what.Kind name arguments) (Many is_present (a_variable 16 []) [])
-    (each-follows is_present (read_variable 16) (a_variable 16 []) variable_of argument-variable-tested refl [])))
-
-var-at : (scope : Scope) (s : Scan) → is_present (seen s) ≡ true → FollowsAt (var_line scope) (λ next. One ((is_present, UnknownWord) ∷ []) (at_least_one is_present (a_variable 255 scope.variables) next)) s
-unfolding var_line
-var-at scope s there = first-at _ (at_least_one is_present (a_variable 255 scope.variables)) s there
-    (map-follows (one_or_more is_present (λ found. read_variable 255 (scope.variables ++ found))) (λ variables. what.Var variables) (at_least_one is_present (a_variable 255 scope.variables))
-    (some-follows is_present (λ found. read_variable 255 (scope.variables ++ found)) (a_variable 255 scope.variables) variable_of (variable-tested 255 scope.variables) refl refl))
-
-state-at : (scope : Scope) (s : Scan) → is_present (seen s) ≡ true → FollowsAt (state_line scope) (λ next. One (opens (length scope.states) 32) (One (new_name TwiceNamed scope.states) (holds_part (settled_part next)))) s
-unfolding state_line
-state-at scope s there = open-at (length scope.states) 32 _ (λ next. One (new_name TwiceNamed scope.states) (holds_part (settled_part next))) s there
-    (then-follows (read_new_name TwiceNamed scope.states) _ (One (new_name TwiceNamed scope.states)) (λ next. holds_part (settled_part next)) (new-name-follows TwiceNamed scope.states)
-    (λ name. then-follows read_holds _ holds_part settled_part holds-follows
-    (λ holds. map-follows read_settled (λ settled. what.State name holds settled) settled_part settled-follows)))
-
-end-at : (s : Scan) → is_present (seen s) ≡ true → FollowsAt end_line (λ next. One ((is_present, UnknownWord) ∷ []) next) s
-unfolding end_line
-end-at s there = first-at (pure what.End) (λ next. next) s there (pure-follows what.End)
-
-root-at : (scope : Scope) (s : Scan) → is_present (seen s) ≡ true → FollowsAt (root_line scope) (λ next. One (opens (length scope.roots) 16) (One (new_name TwiceNamed scope.roots) (One a_name (Many is_root_argument an_argument [] (behind_part (last_priority_part next)))))) s
-unfolding root_line
-root-at scope s there = open-at (length scope.roots) 16 _ (λ next. One (new_name TwiceNamed scope.roots) (One a_name (Many is_root_argument an_argument [] (behind_part (last_priority_part next))))) s there
-    (then-follows (read_new_name TwiceNamed scope.roots) _ (One (new_name TwiceNamed scope.roots)) (λ next. One a_name (Many is_root_argument an_argument [] (behind_part (last_priority_part next)))) (new-name-follows TwiceNamed scope.roots)
-    (λ name. then-follows read_name _ (One a_name) (λ next. Many is_root_argument an_argument [] (behind_part (last_priority_part next))) name-follows
-    (λ kind. then-follows (each is_root_argument read_root_argument []) _ (Many is_root_argument an_argument []) (λ next. behind_part (last_priority_part next))
-    (each-follows is_root_argument read_root_argument an_argument root_term_of root-argument-tested refl [])
-    (λ arguments. then-follows read_behind _ behind_part last_priority_part behind-follows
-    (λ behind. map-follows read_last_priority (λ priority. what.Root name kind arguments behind priority) last_priority_part last-priority-follows)))))
+-- a first word that is there opens a line, of which there may be a limit
+begun-at : {A : Type 0} (count : Option (ℕ × ℕ)) (q : Parser A) (part : Asked → Asked) (s : Scan) → is_present (seen s) ≡ true → Follows q part
+    → FollowsAt (begun count q) (λ next. One (opens count) (part next)) s
+begun-at None q part s there h = first-at q part s there h
+begun-at (Some count) q part s there h = open-at count.0 count.1 q part s there h
 
 keyword-agrees : (scope : Scope) (keyword : Keyword) (s : Scan) → is_present (seen s) ≡ true → Agrees (line_by scope (Some keyword) s) s (keyword_asked scope keyword) End
-keyword-agrees scope k.Kind s there = kind-at scope s there End
-keyword-agrees scope k.Var s there = var-at scope s there End
-keyword-agrees scope k.State s there = state-at scope s there End
-keyword-agrees scope k.End s there = end-at s there End
-keyword-agrees scope k.Root s there = root-at scope s there End
-keyword-agrees scope k.Label s there = step-at scope (read_label scope) _ s there (label-follows scope) End
-keyword-agrees scope k.Set s there = step-at scope read_set _ s there set-follows End
-keyword-agrees scope k.Add s there = step-at scope (read_math op.Add) _ s there (math-follows op.Add) End
-keyword-agrees scope k.Sub s there = step-at scope (read_math op.Sub) _ s there (math-follows op.Sub) End
-keyword-agrees scope k.Mul s there = step-at scope (read_math op.Mul) _ s there (math-follows op.Mul) End
-keyword-agrees scope k.Div s there = step-at scope (read_math op.Div) _ s there (math-follows op.Div) End
-keyword-agrees scope k.Rem s there = step-at scope (read_math op.Rem) _ s there (math-follows op.Rem) End
-keyword-agrees scope k.If s there = step-at scope (read_if scope) _ s there (if-follows scope) End
-keyword-agrees scope k.Goto s there = step-at scope (read_goto scope) _ s there (goto-follows scope) End
-keyword-agrees scope k.Cell s there = step-at scope read_cell _ s there cell-follows End
-keyword-agrees scope k.Rows s there = step-at scope read_rows _ s there rows-follows End
-keyword-agrees scope k.Spawn s there = step-at scope read_spawn _ s there spawn-follows End
-keyword-agrees scope k.All s there = step-at scope read_all _ s there all-follows End
-keyword-agrees scope k.Copy s there = step-at scope read_copy _ s there copy-follows End
-keyword-agrees scope k.Drop s there = step-at scope read_drop _ s there drop-follows End
-keyword-agrees scope k.Get s there = step-at scope read_get _ s there get-follows End
-keyword-agrees scope k.Again s there = step-at scope read_again _ s there again-follows End
-keyword-agrees scope k.Done s there = step-at scope read_done _ s there done-follows End
+unfolding keyword_line
+keyword-agrees scope keyword s there =
+    begun-at (counted scope keyword) (read_parts scope (parts_of keyword) (line_of_parts keyword)) (parts_asked scope (parts_of keyword)) s there
+    (parts-follow scope (parts_of keyword) (line_of_parts keyword)) End
 
 opening-there : (place : Place) (word : Word) (keyword : Keyword) → opening place word ≡ Some keyword → is_present word ≡ true
 opening-there place [] keyword e = cc

@@ -1,13 +1,6 @@
 -- Where a parser stops is the first word that is not as the table asks.
-use Rattle.std.proofs.Common.{◌≡◌, ℕ, ◌+◌, Bool, true, false, not, cond, Option, Some, None, List, [], ◌∷◌, ◌++◌, map, drop, Result, Ok, Err, refl, sym, ◌∙◌, ap, subst, ◌⊎◌, inl, inr}
-use Rattle.std.specs.Prelude.{IsSome, if◌then◌else◌}
-use Rattle.task_text.specs.declared.fault.Cause.{Cause}
-use Rattle.task_text.specs.declared.fault.Cause.TheVariants.{WordsLeft}
-use Rattle.task_text.specs.declared.fault.Fault.{Fault}
-use Rattle.task_text.specs.Fault.{fault_at}
-use Rattle.task_text.specs.Text.{Word, Row}
-use Rattle.task_text.specs.Scan.{is_missing, Scan, start_of, first_of, seen, moved, number_behind, fault_here, Outcome, Parser, and_then, ◌>>=◌, ◌>>◌, pure, need, each_along, each, ended, without_scan, whole}
-use Rattle.task_text.proofs.Whole.{ArePresent}
+use Rattle.task_reader.proofs.Vocabulary.{◌≡◌, ℕ, ◌+◌, Bool, true, false, not, cond, Option, Some, None, List, [], ◌∷◌, ◌++◌, map, drop, Result, Ok, Err, refl, sym, ◌∙◌, ap, subst, ◌⊎◌, inl, inr, IsSome, if◌then◌else◌, Cause, WordsLeft, Fault, fault_at, Word, Row, is_missing, Scan, start_of, first_of, seen, moved, number_behind, fault_here, Outcome, Parser, and_then, pure, need, each_along, each, ended, without_scan, whole, ArePresent}
+use Rattle.task_text.specs.Scan.{◌>>=◌, ◌>>◌}
 use Rattle.task_reader.specs.Asked.{Test, Asked, End, One, Many, By, failed_by, cause_of, behind_word}
 
 -- ---- the first word that may not stand

@@ -1,24 +1,14 @@
 -- The fault of a text is the first one, of its lines or of their names.
-use Rattle.std.proofs.Common.{◌≡◌, ℕ, List, Result, Ok, Err, refl, ◌∙◌, ap, inl, inr}
-use Rattle.task_syntax.specs.declared.program.Program.{Program}
-use Rattle.task_text.specs.declared.fault.Fault.{Fault}
+use Rattle.task_reader.proofs.Vocabulary.{◌≡◌, ℕ, List, Result, Ok, Err, refl, ◌∙◌, ap, inl, inr, Program, Fault, Item, first_scope, items_of, items_of-accepted, items_of-spelled}
 use Rattle.task_text.specs.Fault.{◌>>=◌}
-use Rattle.task_lines.specs.declared.item.Item.{Item}
-use Rattle.task_lines.specs.Scope.{first_scope}
-use Rattle.task_lines.specs.Reading.{items_of}
-use Rattle.task_lines.proofs.Accepted.{items_of-accepted}
-use Rattle.task_lines.proofs.Spelled.{items_of-spelled}
 use Rattle.task_reader.specs.Names.{names_known}
 use Rattle.task_reader.specs.Program.{program_of}
 use Rattle.task_reader.specs.Read.{program_in}
 use Rattle.task_reader.specs.Faults.{IsFirstFault}
-use Rattle.task_reader.proofs.FirstFaults.{items-found}
+use Rattle.task_reader.proofs.FirstFaults.{same-fault, items-found}
 use Rattle.task_reader.proofs.FirstUnknown.{unknown-found}
-use Rattle.task_reader.proofs.RowsTold.{lines-told}
+use Rattle.task_reader.proofs.RowsTold.{stops, lines-told}
 use Rattle.task_reader.proofs.NamesTold.{unknown-told}
-
-same-fault : {A : Type 0} (f g : Fault) → ◌≡◌ {A = Result A Fault} (Err f) (Err g) → f ≡ g
-same-fault f g e = cc
 
 -- the fault that the reading of a text gives is its first
 pub program-first : (text : List ℕ) (fault : Fault) → program_in text ≡ Err fault → IsFirstFault text fault
@@ -31,9 +21,6 @@ program-first text fault e = by (items_of text) refl e where
     named : (o : Result (Unit {0}) Fault) → names_known items first_scope items ≡ o → (o >>= (λ (u : Unit {0}). Ok (program_of items))) ≡ Err fault → IsFirstFault text fault
     named (Ok u) was e = cc
     named (Err f) was e = inr (unknown-found text items fault (items_of-spelled text items is) (was ∙ ap (λ (f : Fault). Err f) (same-fault {A = Program} f fault e)))
-
-stops : {A B : Type 0} (o : Result A Fault) (f : A → Result B Fault) (fault : Fault) → o ≡ Err fault → o >>= f ≡ Err fault
-stops o f fault e = ap (λ (p : Result _ Fault). p >>= f) e
 
 -- the first fault of a text is what its reading gives
 pub first-told : (text : List ℕ) (fault : Fault) → IsFirstFault text fault → program_in text ≡ Err fault

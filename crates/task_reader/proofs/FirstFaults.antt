@@ -1,28 +1,7 @@
 -- The fault of a text that is told is its first.
-use Rattle.std.proofs.Common.{◌≡◌, ◌≢◌, ℕ, Bool, true, false, cond, List, [], ◌∷◌, ◌++◌, length, Result, Ok, Err, refl, sym, ◌∙◌, ap, subst, ◌⊎◌, inl, inr, arith}
-use Rattle.std.specs.Prelude.{codes}
-use Rattle.task_syntax.specs.Names.{same_bytes}
-use Rattle.task_syntax.proofs.Differ.{differ-nil}
-use Rattle.task_text.specs.declared.fault.Cause.TheVariants.{NoHeader, NoEnd}
-use Rattle.task_text.specs.declared.fault.Fault.{Fault}
-use Rattle.task_text.specs.Fault.{fault_at, ◌>>=◌}
-use Rattle.task_text.specs.Text.{Word, Row, lines_of, without_mark, rows_of}
-use Rattle.task_text.specs.Scan.{Scan, start_of, moved, check_text, whole}
-use Rattle.task_text.proofs.Taken.{needed, same-ok, this-word}
-use Rattle.task_text.proofs.Whole.{ArePresent, RowsPresent, rows-present, read-whole, whole-words}
-use Rattle.task_lines.specs.declared.item.What.{What}
+use Rattle.task_reader.proofs.Vocabulary.{◌≡◌, ◌≢◌, ℕ, Bool, true, false, cond, List, [], ◌∷◌, ◌++◌, length, Result, Ok, Err, refl, sym, ◌∙◌, ap, subst, ◌⊎◌, inl, inr, arith, codes, same_bytes, differ-nil, NoHeader, NoEnd, Fault, fault_at, Word, Row, lines_of, without_mark, rows_of, Scan, start_of, moved, check_text, whole, needed, same-ok, this-word, ArePresent, RowsPresent, rows-present, read-whole, whole-words, What, Item, Place, Outside, Head, Code, Jumped, Ended, Scope, first_scope, after, header_line, read_line, is_open_state, is_cut_short, line_of, items_from, rows_behind_header, items_of, Spells, MayStand, AreNew, line-taken, SpellsRow}
+use Rattle.task_text.specs.Fault.{◌>>=◌}
 use Rattle.task_lines.specs.declared.item.What.TheVariants as what
-use Rattle.task_lines.specs.declared.item.Item.{Item}
-use Rattle.task_lines.specs.declared.scope.Place.{Place}
-use Rattle.task_lines.specs.declared.scope.Place.TheVariants.{Outside, Head, Code, Jumped, Ended}
-use Rattle.task_lines.specs.declared.scope.Scope.{Scope}
-use Rattle.task_lines.specs.Scope.{first_scope, after}
-use Rattle.task_lines.specs.Line.{header_line}
-use Rattle.task_lines.specs.Steps.{read_line}
-use Rattle.task_lines.specs.Reading.{is_open_state, is_cut_short, line_of, items_from, rows_behind_header, items_of}
-use Rattle.task_lines.specs.Grammar.{Spells, MayStand}
-use Rattle.task_lines.proofs.SpelledParts.{AreNew}
-use Rattle.task_lines.proofs.Spelled.{SpellsRow, line-taken}
 use Rattle.task_reader.specs.Asked.{Asked, header_asked, line_asked}
 use Rattle.task_reader.specs.Faults.{word_at, AreAsAsked, AreText, RowFault, EndsTooSoon, LeadTo, LineFault, no_row, in_header, in_row, too_soon, left_open}
 use Rattle.task_reader.proofs.AskedWords.{RowAgrees, whole-agrees}
@@ -49,8 +28,8 @@ not-ended place cut e = cc
 
 -- a line that is cut short begins with its word
 pub cut-ends : (place : Place) (words : List Word) (w : What) → Spells words w → is_cut_short place w ≡ true → EndsTooSoon place (word_at words 0)
-cut-ends place words (what.State name holds settled) spelled cut = inl (ap (λ ws. word_at ws 0) spelled.2, no-head place cut, no-end place cut)
-cut-ends place words what.End spelled cut = inr (ap (λ ws. word_at ws 0) spelled, not-ended place cut)
+cut-ends place words (what.State name holds settled) spelled cut = inl (ap (λ ws. word_at ws 0) spelled.1, no-head place cut, no-end place cut)
+cut-ends place words what.End spelled cut = inr (ap (λ ws. word_at ws 0) spelled.1, not-ended place cut)
 cut-ends place words (what.Kind name arguments) spelled cut = cc
 cut-ends place words (what.Var variables) spelled cut = cc
 cut-ends place words (what.Step step) spelled cut = cc
@@ -122,7 +101,7 @@ new-after scope (what.Kind name arguments) stands new = (stands.3, omega (arith,
 new-after scope (what.Var variables) stands new = (stands.1, stands.2)
 new-after scope w stands new = new
 
-same-fault : {A : Type 0} (f g : Fault) → ◌≡◌ {A = Result A Fault} (Err f) (Err g) → f ≡ g
+pub same-fault : {A : Type 0} (f g : Fault) → ◌≡◌ {A = Result A Fault} (Err f) (Err g) → f ≡ g
 same-fault f g e = cc
 
 open-end : (last : ℕ) (place : Place) (fault : Fault) → ◌≡◌ {A = Result (List Item) Fault} (elim place [ Outside ↦ Ok [] | _ ↦ Err (fault_at NoEnd last 0) ]) (Err fault)

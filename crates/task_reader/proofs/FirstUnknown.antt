@@ -1,13 +1,6 @@
 -- The first name that no line gives.
-use Rattle.std.proofs.Common.{◌≡◌, ◌<◌, ℕ, zero, suc, ◌+◌, add-one, Bool, true, false, Some, List, [], ◌∷◌, ◌++◌, length, slice_get, Result, Ok, Err, refl, sym, ◌∙◌, ap, subst, arith}
-use Rattle.task_text.specs.declared.fault.Cause.TheVariants.{UnknownName}
-use Rattle.task_text.specs.declared.fault.Fault.{Fault}
-use Rattle.task_text.specs.Fault.{fault_at, ◌>>◌}
-use Rattle.task_text.specs.Text.{Row, rows_of}
-use Rattle.task_lines.specs.declared.item.Item.{Item}
-use Rattle.task_lines.specs.declared.scope.Scope.{Scope}
-use Rattle.task_lines.specs.Scope.{first_scope, after}
-use Rattle.task_lines.specs.Grammar.{Spells, RowsSpellFrom, RowsSpell}
+use Rattle.task_reader.proofs.Vocabulary.{◌≡◌, ◌<◌, ℕ, zero, suc, ◌+◌, add-one, Bool, true, false, Some, List, [], ◌∷◌, ◌++◌, length, slice_get, Result, Ok, Err, refl, sym, ◌∙◌, ap, subst, arith, UnknownName, Fault, fault_at, Row, rows_of, Item, Scope, first_scope, after, Spells, RowsSpellFrom, RowsSpell}
+use Rattle.task_text.specs.Fault.{◌>>◌}
 use Rattle.task_reader.specs.Uses.{Use, line_uses}
 use Rattle.task_reader.specs.Names.{Known, is_given, known, known_at, uses_known, line_known, names_known}
 use Rattle.task_reader.specs.Faults.{scope_behind, UsesAt, IsFirstUnknown}

@@ -1,18 +1,7 @@
 -- The items of a text keep the limits.
-use Rattle.std.proofs.Common.{◌≡◌, ℕ, suc, ◌+◌, ◌*◌, ◌^◌, ◌<◌, ◌≤◌, Bool, true, false, cond, not, ◌==◌, List, [], ◌∷◌, ◌++◌, length, drop, refl, sym, ap, subst, append_assoc, append-nil, length-append, codes, arith}
-use Rattle.std.specs.List.{starts_with, prefix_len}
-use Rattle.std.proofs.lemmas.List.{length-take, length-drop}
-use Rattle.std.specs.Prelude.{nat_eq}
-use Rattle.task_text.specs.Text.{Word, Row, in_front, lines_of, code_of, words_of, with_row, rows_from, without_mark, rows_of}
-use Rattle.task_text.proofs.Cutting.{length-words_of}
-use Rattle.task_lines.specs.declared.step.Step.{Step}
-use Rattle.task_lines.specs.declared.step.Step.TheVariants.{Spawn, All}
-use Rattle.task_lines.specs.declared.item.What.{What}
+use Rattle.task_reader.proofs.Vocabulary.{◌≡◌, ℕ, suc, ◌+◌, ◌*◌, ◌^◌, ◌<◌, ◌≤◌, Bool, true, false, cond, not, ◌==◌, List, [], ◌∷◌, ◌++◌, length, drop, refl, sym, ap, subst, append-nil, codes, arith, starts_with, prefix_len, length-take, length-drop, nat_eq, Word, Row, in_front, lines_of, code_of, words_of, with_row, rows_from, without_mark, rows_of, length-words_of, Step, Spawn, All, What, Item, Scope, first_scope, after, SpellsFuture, EachSpells, SpellsFutures, Spells, MayStand, MayName, RowsSpellFrom, RowsSpell}
+use Rattle.std.proofs.Common.{append_assoc, length-append}
 use Rattle.task_lines.specs.declared.item.What.TheVariants as what
-use Rattle.task_lines.specs.declared.item.Item.{Item}
-use Rattle.task_lines.specs.declared.scope.Scope.{Scope}
-use Rattle.task_lines.specs.Scope.{first_scope, after}
-use Rattle.task_lines.specs.Grammar.{SpellsFuture, EachSpells, SpellsFutures, Spells, MayStand, MayName, RowsSpellFrom, RowsSpell}
 use Rattle.task_reader.specs.Names.{kind_names, state_names}
 use Rattle.task_reader.specs.Program.{variables_from}
 use Rattle.task_reader.specs.Fits.{root_names, steps_ahead, IsShortStep, IsShort, EachIsShort, Fit}
@@ -84,10 +73,10 @@ list-length opening words (name ∷ names) h =
 state-words : (n : ℕ) (words : List Word) (name : List ℕ) (holds settled : List (List ℕ)) → 2 * length words ≤ n + 1 → n < 2 ^ 32
     → Spells words (what.State name holds settled) → length holds + length settled < 2 ^ 31
 state-words n words name holds settled few small h =
-    let hs = h.0 in
-    let ss = h.1 in
-    let e : length words ≡ suc (suc (length (hs ++ ss))) = ap (λ ws. length ws) h.2 in
-    omega (arith, length-append hs ss, list-length (codes "holds") hs holds h.4, list-length (codes "settled") ss settled h.5)
+    let hs = h.0.1.0.0 in
+    let ss = h.0.1.1.0.0 in
+    let e : length words ≡ suc (suc (length (hs ++ (ss ++ [])))) = ap (λ ws. length ws) h.1 in
+    omega (arith, length-append hs (ss ++ []), length-append ss [], list-length (codes "holds") hs holds h.0.1.0.1, list-length (codes "settled") ss settled h.0.1.1.0.1)
 
 -- ---- what may stand keeps the limits
 

@@ -1,16 +1,5 @@
 -- A text that spells a program spells a well-formed one.
-use Rattle.std.proofs.Common.{◌≡◌, ℕ, ◌+◌, List, [], ◌∷◌, Ok, map, length, refl, sym, ◌∙◌, ap, subst, arith}
-use Rattle.std.proofs.lemmas.List.{length-map}
-use Rattle.task_syntax.specs.Places.{AllDiffer}
-use Rattle.task_syntax.specs.Form.{IsFormedRoot, IsWellFormed}
-use Rattle.task_syntax.specs.declared.program.Kind.{Kind}
-use Rattle.task_syntax.specs.declared.program.Root.{Root}
-use Rattle.task_syntax.specs.declared.program.Program.{Program}
-use Rattle.task_text.specs.Text.{Row, lines_of, without_mark, rows_of}
-use Rattle.task_lines.specs.declared.item.Item.{Item}
-use Rattle.task_lines.specs.declared.scope.Scope.{Scope}
-use Rattle.task_lines.specs.Scope.{first_scope, after}
-use Rattle.task_lines.specs.Grammar.{RowsSpellFrom, RowsSpell}
+use Rattle.task_reader.proofs.Vocabulary.{◌≡◌, ℕ, ◌+◌, List, [], ◌∷◌, Ok, map, length, refl, sym, ◌∙◌, ap, subst, arith, length-map, AllDiffer, IsFormedRoot, IsWellFormed, Kind, Root, Program, Row, lines_of, without_mark, rows_of, Item, Scope, first_scope, after, RowsSpellFrom, RowsSpell}
 use Rattle.task_reader.specs.Names.{kind_names, names_known}
 use Rattle.task_reader.specs.Program.{kinds_from, roots_from, program_of}
 use Rattle.task_reader.specs.Read.{Spelled}

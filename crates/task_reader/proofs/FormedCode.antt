@@ -1,27 +1,7 @@
 -- The code of a state: its instructions, their labels, and how it is left.
-use Rattle.std.proofs.Common.{◌≡◌, ℕ, zero, suc, ◌+◌, ◌≤◌, add-one, Bool, true, false, ◌||◌, cond, Option, Some, List, [], ◌∷◌, ◌++◌, Ok, length, slice_get, refl, sym, ◌∙◌, ap, ◌⊎◌, inl, inr, subst, arith}
+use Rattle.task_reader.proofs.Vocabulary.{◌≡◌, ℕ, zero, suc, ◌+◌, ◌≤◌, add-one, Bool, true, false, ◌||◌, cond, Option, Some, List, [], ◌∷◌, ◌++◌, Ok, length, slice_get, refl, sym, ◌∙◌, ap, ◌⊎◌, inl, inr, subst, arith, append-nil, option_map, same_bytes, AllDiffer, IsFormedInstr, IsLabel, Leaves, Ends, IsLabelAhead, Instr, Line, State, Kind, Program, differ-snoc, is_among, Step, Goto, Label, Again, Done, What, Item, Place, Head, Code, Ended, Scope, after, place_behind, MayBegin, IsInState}
 use Rattle.std.proofs.lemmas.List.{append_assoc}
-use Rattle.std.specs.Option.{option_map}
-use Rattle.task_syntax.specs.Names.{same_bytes}
-use Rattle.task_syntax.specs.Places.{AllDiffer}
-use Rattle.task_syntax.specs.Form.{IsFormedInstr, IsLabel, Leaves, Ends, IsLabelAhead}
-use Rattle.task_syntax.specs.declared.instr.Instr.{Instr}
-use Rattle.task_syntax.specs.declared.instr.Line.{Line}
-use Rattle.task_syntax.specs.declared.program.State.{State}
-use Rattle.task_syntax.specs.declared.program.Kind.{Kind}
-use Rattle.task_syntax.specs.declared.program.Program.{Program}
-use Rattle.task_syntax.proofs.Differ.{differ-snoc}
-use Rattle.task_text.specs.Scan.{is_among}
-use Rattle.task_lines.specs.declared.step.Step.{Step}
-use Rattle.task_lines.specs.declared.step.Step.TheVariants.{Goto, Label, Again, Done}
-use Rattle.task_lines.specs.declared.item.What.{What}
 use Rattle.task_lines.specs.declared.item.What.TheVariants as what
-use Rattle.task_lines.specs.declared.item.Item.{Item}
-use Rattle.task_lines.specs.declared.scope.Place.{Place}
-use Rattle.task_lines.specs.declared.scope.Place.TheVariants.{Head, Code, Ended}
-use Rattle.task_lines.specs.declared.scope.Scope.{Scope}
-use Rattle.task_lines.specs.Scope.{after, place_behind}
-use Rattle.task_lines.specs.Grammar.{MayBegin, IsInState}
 use Rattle.task_reader.specs.Uses.{step_uses}
 use Rattle.task_reader.specs.Names.{kind_names, state_names, label_names, known_at, uses_known, names_known}
 use Rattle.task_reader.specs.declared.positions.Positions.{Positions}
@@ -65,19 +45,15 @@ code-fits positions (item ∷ items) s at stand few = code-fits-step positions i
 abbrev LabelsDiffer : List Item → Type 0
 LabelsDiffer items = (s : Scope) → Stand s items → AllDiffer s.labels → AllDiffer (s.labels ++ label_names items)
 
-nothing-more : (names : List (List ℕ)) → names ++ [] ≡ names
-nothing-more [] = refl
-nothing-more (name ∷ names) = ap (λ more. name ∷ more) (nothing-more names)
-
 labels-differ-step : (line : ℕ) (w : What) (items : List Item) → LabelsDiffer items → LabelsDiffer (item_at line w ∷ items)
 labels-differ-step line (what.Step (Label name)) items further s stand differ =
     subst (λ names. AllDiffer names) (append_assoc s.labels (name ∷ []) (label_names items))
     (further (after s (what.Step (Label name))) stand.2 (differ-snoc s.labels name differ (new-absent name s.labels stand.1.2)))
 labels-differ-step line (what.Step step) items further s stand differ = further (after s (what.Step step)) stand.2 differ
-labels-differ-step line w items further s stand differ = subst (λ names. AllDiffer names) (sym (nothing-more s.labels)) differ
+labels-differ-step line w items further s stand differ = subst (λ names. AllDiffer names) (sym (append-nil s.labels)) differ
 
 pub labels-differ : (items : List Item) → LabelsDiffer items
-labels-differ [] s stand differ = subst (λ names. AllDiffer names) (sym (nothing-more s.labels)) differ
+labels-differ [] s stand differ = subst (λ names. AllDiffer names) (sym (append-nil s.labels)) differ
 labels-differ (item ∷ items) s stand differ = labels-differ-step item.line item.what items (labels-differ items) s stand differ
 
 -- a label that is given ahead stands where the steps to it say

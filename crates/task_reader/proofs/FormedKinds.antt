@@ -1,22 +1,8 @@
 -- The kinds of a program are well formed where their names are known.
-use Rattle.std.proofs.Common.{◌≡◌, ℕ, ◌≤◌, List, [], ◌∷◌, ◌++◌, Ok, map, length, refl, sym, ◌∙◌, ap, subst, arith}
-use Rattle.std.proofs.lemmas.List.{append_assoc, length-append, length-map}
-use Rattle.task_syntax.specs.Names.{IsName}
-use Rattle.task_syntax.specs.Places.{AllDiffer, Each}
-use Rattle.task_syntax.specs.Form.{IsFormedKind}
-use Rattle.task_syntax.specs.declared.program.Sort.{Sort}
+use Rattle.task_reader.proofs.Vocabulary.{◌≡◌, ℕ, ◌≤◌, List, [], ◌∷◌, ◌++◌, Ok, map, length, refl, sym, ◌∙◌, ap, subst, arith, append-nil, length-map, IsName, AllDiffer, Each, IsFormedKind, Sort, Variable, State, Program, each-nil, each-cons, each-append, Word, What, Item, Scope, after, EachSpells, SpellsName, SpellsFuture, SpellsVariable}
+use Rattle.std.proofs.lemmas.List.{append_assoc, length-append}
 use Rattle.task_syntax.specs.declared.program.Sort.TheVariants as sort
-use Rattle.task_syntax.specs.declared.program.Variable.{Variable}
-use Rattle.task_syntax.specs.declared.program.State.{State}
-use Rattle.task_syntax.specs.declared.program.Program.{Program}
-use Rattle.task_syntax.proofs.Differ.{each-nil, each-cons, each-append}
-use Rattle.task_text.specs.Text.{Word}
-use Rattle.task_lines.specs.declared.item.What.{What}
 use Rattle.task_lines.specs.declared.item.What.TheVariants as what
-use Rattle.task_lines.specs.declared.item.Item.{Item}
-use Rattle.task_lines.specs.declared.scope.Scope.{Scope}
-use Rattle.task_lines.specs.Scope.{after}
-use Rattle.task_lines.specs.Grammar.{EachSpells, SpellsName, SpellsFuture, SpellsVariable}
 use Rattle.task_reader.specs.Names.{kind_names, state_names, known_at, uses_known, line_known, names_known}
 use Rattle.task_reader.specs.declared.positions.Positions.{Positions}
 use Rattle.task_reader.specs.Program.{states_from, variables_from, kind_of, kinds_from}
@@ -42,10 +28,6 @@ variable-names words [] h = each-nil (λ (v : Variable). IsName v.name)
 variable-names [] (variable ∷ more) h = absurd h
 variable-names (word ∷ words) (variable ∷ more) h = each-cons (λ (v : Variable). IsName v.name) variable more (variable-name word variable h.0) (variable-names words more h.1)
 
-nothing-more : {X : Type 0} (xs : List X) → xs ++ [] ≡ xs
-nothing-more [] = refl
-nothing-more (x ∷ xs) = ap (λ more. x ∷ more) (nothing-more xs)
-
 abbrev VariablesFormed : List Item → Type 0
 VariablesFormed items = (s : Scope) → Stand s items → AreVariables s.variables → AreVariables (s.variables ++ variables_from items)
 
@@ -55,12 +37,12 @@ variables-formed-step line (what.Var more) items further s stand are =
     (further (after s (what.Var more)) stand.2 (record {
       differ = stand.1.1;
       fit = stand.1.2;
-      names = each-append (λ (v : Variable). IsName v.name) s.variables more are.names (variable-names stand.0.1.0 more stand.0.1.3);
+      names = each-append (λ (v : Variable). IsName v.name) s.variables more are.names (variable-names stand.0.1.0.0.0 more stand.0.1.0.0.2);
     }))
-variables-formed-step line w items further s stand are = subst AreVariables (sym (nothing-more s.variables)) are
+variables-formed-step line w items further s stand are = subst AreVariables (sym (append-nil s.variables)) are
 
 variables-formed : (items : List Item) → VariablesFormed items
-variables-formed [] s stand are = subst AreVariables (sym (nothing-more s.variables)) are
+variables-formed [] s stand are = subst AreVariables (sym (append-nil s.variables)) are
 variables-formed (item ∷ items) s stand are = variables-formed-step item.line item.what items (variables-formed items) s stand are
 
 kind-formed : (p : Program) (kinds : List (List ℕ)) → length p.kinds ≡ length kinds → (all : List Item) → kind_names all ≡ kinds
@@ -68,7 +50,7 @@ kind-formed : (p : Program) (kinds : List (List ℕ)) → length p.kinds ≡ len
     → names_known all (after s (what.Kind name arguments)) items ≡ Ok tt → IsFormedKind p (kind_of kinds line name arguments items)
 unfolding kind_of
 kind-formed p kinds count all names s line name arguments items stand looked_up = record {
-  name = stand.0.1.2;
+  name = stand.0.1.0.0;
   arguments_fit = stand.1.4;
   arguments_are_variables = omega (arith, length-append arguments (variables_from items));
   variables_fit = variables.fit;
@@ -89,7 +71,7 @@ kind-formed p kinds count all names s line name arguments items stand looked_up 
   same = names-of-states positions items
 
   variables : AreVariables (arguments ++ variables_from items)
-  variables = variables-formed items head stand.2 (record { differ = stand.1.3; fit = omega (arith, stand.1.4); names = variable-names stand.0.1.0 arguments stand.0.1.3 })
+  variables = variables-formed items head stand.2 (record { differ = stand.1.3; fit = omega (arith, stand.1.4); names = variable-names stand.0.1.0.1.0.0 arguments stand.0.1.0.1.0.1 })
 
   state_names_are : AreNames 32 (state_names items)
   state_names_are = state-names items head tt stand.2 (no-names 32)

@@ -1,24 +1,8 @@
 -- The roots of a program are well formed where their names are known.
-use Rattle.std.proofs.Common.{◌≡◌, ℕ, zero, suc, ◌+◌, ◌<◌, true, Option, Some, None, List, [], ◌∷◌, ◌++◌, Ok, map, length, slice_get, sym, subst, arith}
-use Rattle.std.specs.Prelude.{IfSome}
-use Rattle.std.specs.Option.{option_map}
-use Rattle.std.proofs.lemmas.List.{length-append, length-map}
-use Rattle.task_syntax.specs.Places.{Each}
-use Rattle.task_syntax.specs.Form.{IsFormedRootArgument, IsFormedRoot}
-use Rattle.task_syntax.specs.declared.program.Root.{Root}
-use Rattle.task_syntax.specs.declared.program.Program.{Program}
-use Rattle.task_syntax.specs.declared.value.Priority.{Priority}
-use Rattle.task_syntax.proofs.Differ.{each-map, each-nil, each-cons}
-use Rattle.task_text.specs.Text.{Word}
-use Rattle.task_text.specs.Scan.{is_among}
-use Rattle.task_lines.specs.declared.item.RootTerm.{RootTerm}
+use Rattle.task_reader.proofs.Vocabulary.{◌≡◌, ℕ, zero, suc, ◌+◌, ◌<◌, true, Option, Some, None, List, [], ◌∷◌, ◌++◌, Ok, map, length, slice_get, sym, subst, arith, IfSome, option_map, length-map, Each, IsFormedRootArgument, IsFormedRoot, Root, Program, Priority, each-map, each-nil, each-cons, Word, is_among, RootTerm, What, Item, Scope, after, EachSpells, SpellsRootTerm}
+use Rattle.std.proofs.lemmas.List.{length-append}
 use Rattle.task_lines.specs.declared.item.RootTerm.TheVariants as root_term
-use Rattle.task_lines.specs.declared.item.What.{What}
 use Rattle.task_lines.specs.declared.item.What.TheVariants as what
-use Rattle.task_lines.specs.declared.item.Item.{Item}
-use Rattle.task_lines.specs.declared.scope.Scope.{Scope}
-use Rattle.task_lines.specs.Scope.{after}
-use Rattle.task_lines.specs.Grammar.{EachSpells, SpellsRootTerm}
 use Rattle.task_reader.specs.Uses.{UsesRoot, root_term_use, behind_uses, root_uses}
 use Rattle.task_reader.specs.Names.{Known, kind_names, is_given, known_at, line_known, names_known}
 use Rattle.task_reader.specs.Program.{place_of, root_argument_of, root_of, roots_from}
@@ -58,12 +42,12 @@ root-formed : (p : Program) (kinds : List (List ℕ)) → length p.kinds ≡ len
     → IsFormedRoot p (length s.roots) (root_of kinds s.roots line name kind arguments behind priority)
 unfolding root_of
 root-formed p kinds count all names s line name kind arguments behind priority items stand looked_up = record {
-  name = stand.0.1.4;
+  name = stand.0.1.0.0;
   kind = subst (λ n. place_of kinds kind < n) (sym count)
       (place-within kinds kind (subst (λ ks. is_among ks kind ≡ true) names given.1.1.0));
   arguments_fit = omega (arith, length-map arguments (root_argument_of s.roots), stand.1.3);
   arguments = each-map (root_argument_of s.roots) (IsFormedRootArgument (length s.roots)) arguments
-      (arguments-formed k stand.0.1.0 arguments stand.0.1.6 parts.0);
+      (arguments-formed k stand.0.1.0.1.1.0.0 arguments stand.0.1.0.1.1.0.1 parts.0);
   behind = behind-formed k behind parts.1;
 } where
   k : Known

@@ -1,27 +1,7 @@
 -- The states of a kind are well formed where their names are known.
-use Rattle.std.proofs.Common.{◌≡◌, ℕ, suc, ◌+◌, ◌<◌, add-one, true, Option, Some, List, [], ◌∷◌, ◌++◌, Ok, map, length, slice_get, refl, sym, ◌∙◌, ap, inl, inr, subst, arith}
+use Rattle.task_reader.proofs.Vocabulary.{◌≡◌, ℕ, suc, ◌+◌, ◌<◌, add-one, true, Option, Some, List, [], ◌∷◌, ◌++◌, Ok, map, length, slice_get, refl, sym, ◌∙◌, ap, inl, inr, subst, arith, append-nil, option_map, AllDiffer, Each, instr_at, IsFormedInstr, IsFormedState, IsLabel, Leaves, Future, Variable, Instr, Line, State, Kind, Program, differ-nil, differ-map, each-nil, each-cons, Step, Goto, Label, Again, Done, What, Item, Place, Outside, Head, Code, Ended, Scope, has_variable, after, place_behind, IsInState, MayFollow}
 use Rattle.std.proofs.lemmas.List.{append_assoc}
-use Rattle.std.specs.Option.{option_map}
-use Rattle.task_syntax.specs.Places.{AllDiffer, Each, instr_at}
-use Rattle.task_syntax.specs.Form.{IsFormedInstr, IsFormedState, IsLabel, Leaves}
-use Rattle.task_syntax.specs.declared.program.Sort.TheVariants.{Future}
-use Rattle.task_syntax.specs.declared.program.Variable.{Variable}
-use Rattle.task_syntax.specs.declared.instr.Instr.{Instr}
-use Rattle.task_syntax.specs.declared.instr.Line.{Line}
-use Rattle.task_syntax.specs.declared.program.State.{State}
-use Rattle.task_syntax.specs.declared.program.Kind.{Kind}
-use Rattle.task_syntax.specs.declared.program.Program.{Program}
-use Rattle.task_syntax.proofs.Differ.{differ-nil, differ-map, each-nil, each-cons}
-use Rattle.task_lines.specs.declared.step.Step.{Step}
-use Rattle.task_lines.specs.declared.step.Step.TheVariants.{Goto, Label, Again, Done}
-use Rattle.task_lines.specs.declared.item.What.{What}
 use Rattle.task_lines.specs.declared.item.What.TheVariants as what
-use Rattle.task_lines.specs.declared.item.Item.{Item}
-use Rattle.task_lines.specs.declared.scope.Place.{Place}
-use Rattle.task_lines.specs.declared.scope.Place.TheVariants.{Outside, Head, Code, Ended}
-use Rattle.task_lines.specs.declared.scope.Scope.{Scope}
-use Rattle.task_lines.specs.Scope.{has_variable, after, place_behind}
-use Rattle.task_lines.specs.Grammar.{IsInState, MayFollow}
 use Rattle.task_reader.specs.Uses.{UsesFuture, futures_uses, state_uses}
 use Rattle.task_reader.specs.Names.{Known, kind_names, state_names, known_at, uses_known, line_known, names_known}
 use Rattle.task_reader.specs.declared.positions.Positions.{Positions}
@@ -54,7 +34,7 @@ pub state-formed : (positions : Positions) (p : Program) (kind : Kind) → IsFor
     → (s.states ++ name ∷ []) ++ state_names items ≡ positions.states → IsFormedState p kind (state_of positions line name holds settled items)
 unfolding names_known
 state-formed positions p kind for all kinds s line name holds settled items stand looked_up variables states = record {
-  name = stand.0.1.3;
+  name = stand.0.1.0.0;
   holds = futures-formed positions p kind for [] [] holds held;
   holds_differ = futures-differ positions.variables holds (futures-are k holds held) stand.1.3;
   settled = futures-formed positions p kind for [] [] settled settled_known;
@@ -112,10 +92,6 @@ no-head (Again target behind priority) e = cc
 no-head (Done value) e = cc
 no-head step e = cc
 
-nothing-more : {X : Type 0} (xs : List X) → xs ++ [] ≡ xs
-nothing-more [] = refl
-nothing-more (x ∷ xs) = ap (λ more. x ∷ more) (nothing-more xs)
-
 abbrev StatesFormed : Positions → Program → Kind → List Item → List Item → Type 0
 StatesFormed positions p kind all items = (s : Scope) → IsInKind s.place → Stand s items → names_known all s items ≡ Ok tt
     → s.variables ++ variables_from items ≡ positions.variables → s.states ++ state_names items ≡ positions.states
@@ -134,7 +110,7 @@ states-formed-step positions p kind for all kinds line (what.State name holds se
     let names : (s.states ++ name ∷ []) ++ state_names items ≡ positions.states = append_assoc s.states (name ∷ []) (state_names items) ∙ states in
     let parts = both-known (line_known (known_at all s items) line (what.State name holds settled)) (names_known all behind items) known in
     each-cons (IsFormedState p kind) (state_of positions line name holds settled items) (states_from positions items)
-    (state-formed positions p kind for all kinds s line name holds settled items stand known (sym (nothing-more s.variables) ∙ variables) names)
+    (state-formed positions p kind for all kinds s line name holds settled items stand known (sym (append-nil s.variables) ∙ variables) names)
     (further behind tt stand.2 parts.1 (ap (λ more. s.variables ++ more) none ∙ variables) names)
 states-formed-step positions p kind for all kinds line (what.Step step) items further s in_kind stand known variables states =
     let behind = after s (what.Step step) in

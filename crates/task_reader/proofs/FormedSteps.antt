@@ -1,31 +1,8 @@
 -- An instruction is well formed where its names are known.
-use Rattle.std.proofs.Common.{◌≡◌, ◌≢◌, ℕ, ◌<◌, ◌≤◌, ◌^◌, true, ◌&&◌, Option, Some, None, List, [], ◌∷◌, Ok, map, length, refl, sym, subst, arith}
-use Rattle.std.specs.Prelude.{IfSome, nat_lt}
-use Rattle.std.specs.Option.{option_map}
-use Rattle.std.specs.List.{list_all}
-use Rattle.std.specs.Str.Parse.{digits_value}
-use Rattle.std.proofs.lemmas.Bool.{ltb-true}
-use Rattle.std.proofs.lemmas.List.{length-map}
-use Rattle.task_syntax.specs.Names.{is_between, is_digit}
-use Rattle.task_syntax.specs.Places.{Each, IsNumberAt, IsFutureAt}
-use Rattle.task_syntax.specs.Form.{IsFormedOperand, IsFormedArgument, IsFormedInstr, IsLabelAhead}
-use Rattle.task_syntax.specs.declared.program.Sort.TheVariants.{Number, Future}
-use Rattle.task_syntax.specs.declared.program.State.{State}
-use Rattle.task_syntax.specs.declared.program.Kind.{Kind}
-use Rattle.task_syntax.specs.declared.program.Program.{Program}
-use Rattle.task_syntax.proofs.Bools.{both}
-use Rattle.task_syntax.proofs.Differ.{each-map, each-nil, each-cons}
-use Rattle.task_text.specs.Text.{Word}
-use Rattle.task_text.specs.Scan.{is_among}
-use Rattle.task_lines.specs.declared.step.Term.{Term}
+use Rattle.task_reader.proofs.Vocabulary.{◌≡◌, ◌≢◌, ℕ, ◌<◌, ◌≤◌, ◌^◌, true, ◌&&◌, Option, Some, None, List, [], ◌∷◌, Ok, map, length, refl, sym, subst, arith, IfSome, nat_lt, option_map, list_all, digits_value, ltb-true, length-map, is_between, is_digit, Each, IsNumberAt, IsFutureAt, IsFormedOperand, IsFormedArgument, IsFormedInstr, IsLabelAhead, Number, Future, State, Kind, Program, both, each-map, each-nil, each-cons, Word, is_among, Term, Passed, Step, Set, Math, If, Goto, Label, Cell, Rows, Spawn, All, Copy, Drop, Get, Again, Done, Scope, has_variable, SpellsNumber, SpellsTerm, SpellsPassed, Spells, EachSpells, MayName}
 use Rattle.task_lines.specs.declared.step.Term.TheVariants as term
-use Rattle.task_lines.specs.declared.step.Passed.{Passed}
 use Rattle.task_lines.specs.declared.step.Passed.TheVariants as passed
-use Rattle.task_lines.specs.declared.step.Step.{Step}
-use Rattle.task_lines.specs.declared.step.Step.TheVariants.{Set, Math, If, Goto, Label, Cell, Rows, Spawn, All, Copy, Drop, Get, Again, Done}
-use Rattle.task_lines.specs.declared.scope.Scope.{Scope}
-use Rattle.task_lines.specs.Scope.{has_variable}
-use Rattle.task_lines.specs.Grammar.{SpellsNumber, SpellsTerm, SpellsPassed, SpellsStep, EachSpells, MayName}
+use Rattle.task_lines.specs.declared.item.What.TheVariants as what
 use Rattle.task_reader.specs.Uses.{UsesFuture, term_use, passed_use, behind_uses, step_uses}
 use Rattle.task_reader.specs.Names.{Known, is_given, uses_known}
 use Rattle.task_reader.specs.declared.positions.Positions.{Positions}
@@ -97,29 +74,29 @@ some-members (x ∷ xs) n = omega arith
 
 -- an instruction is well formed where its names are known
 pub step-formed : (positions : Positions) (p : Program) (kind : Kind) → IsFor positions p kind → (state : State) (at : ℕ) (labels roots : List (List ℕ)) (label_place : List ℕ → ℕ)
-    → LabelsAhead state at labels label_place → (s : Scope) (line : ℕ) (words : List Word) (step : Step) → SpellsStep words step → MayName s step
+    → LabelsAhead state at labels label_place → (s : Scope) (line : ℕ) (words : List Word) (step : Step) → Spells words (what.Step step) → MayName s step
     → uses_known (known_for positions labels roots) line 1 (step_uses step) ≡ Ok tt → IsFormedInstr p kind state at (instr_of positions label_place step)
 unfolding instr_of
 step-formed positions p kind for state at labels roots label_place ahead s line words step spelled may e =
     given step spelled may (all-given (known_for positions labels roots) line 1 (step_uses step) e)
   where
-    given : (step : Step) → SpellsStep words step → MayName s step → AllGiven (known_for positions labels roots) (step_uses step) → IsFormedInstr p kind state at (instr_of positions label_place step)
-    given (Set to value) spelled may g = (number-formed positions p kind for to g.1.0, term-formed positions p kind for labels roots spelled.0 value spelled.3 g.1.1.0)
+    given : (step : Step) → Spells words (what.Step step) → MayName s step → AllGiven (known_for positions labels roots) (step_uses step) → IsFormedInstr p kind state at (instr_of positions label_place step)
+    given (Set to value) spelled may g = (number-formed positions p kind for to g.1.0, term-formed positions p kind for labels roots spelled.0.1.0.0 value spelled.0.1.0.1 g.1.1.0)
     given (Math operation to left right) spelled may g = (
       number-formed positions p kind for to g.1.0,
-      term-formed positions p kind for labels roots spelled.0 left spelled.4 g.1.1.0,
-      term-formed positions p kind for labels roots spelled.1 right spelled.5 g.1.1.1.0,
+      term-formed positions p kind for labels roots spelled.0.1.0.0 left spelled.0.1.0.1 g.1.1.0,
+      term-formed positions p kind for labels roots spelled.0.1.1.0.0 right spelled.0.1.1.0.1 g.1.1.1.0,
     )
     given (If relation left right target) spelled may g = (
-      term-formed positions p kind for labels roots spelled.0 left spelled.3 g.1.0,
-      term-formed positions p kind for labels roots spelled.1 right spelled.4 g.1.1.1.0,
+      term-formed positions p kind for labels roots spelled.0.0.0 left spelled.0.0.1 g.1.0,
+      term-formed positions p kind for labels roots spelled.0.1.1.0.0 right spelled.0.1.1.0.1 g.1.1.1.0,
       ahead target g.1.1.1.1.1.0,
     )
     given (Goto target) spelled may g = ahead target g.1.0
-    given (Label name) spelled may g = spelled.1
+    given (Label name) spelled may g = spelled.0.0
     given (Cell to column row) spelled may g =
-        (number-formed positions p kind for to g.1.0, spelled.3, term-formed positions p kind for labels roots spelled.0 row spelled.4 g.1.1.1.0)
-    given (Rows to column) spelled may g = (number-formed positions p kind for to g.1.0, spelled.2)
+        (number-formed positions p kind for to g.1.0, spelled.0.1.0, term-formed positions p kind for labels roots spelled.0.1.1.0.0 row spelled.0.1.1.0.1 g.1.1.1.0)
+    given (Rows to column) spelled may g = (number-formed positions p kind for to g.1.0, spelled.0.1.0)
     given (Spawn to callee arguments behind priority retry) spelled may g =
         let few : length (map (argument_of positions) arguments) ≤ 16 = rw length-map may in
         let parts = given-parts (known_for positions labels roots) (map passed_use arguments) (behind_uses UsesFuture behind) g.1.1.1 in (
@@ -127,12 +104,12 @@ step-formed positions p kind for state at labels roots label_place ahead s line 
           subst (λ n. place_of positions.kinds callee < n) (sym for.kinds) (place-within positions.kinds callee g.1.1.0),
           few,
           each-map (argument_of positions) (IsFormedArgument kind) arguments
-              (arguments-formed positions p kind for labels roots spelled.0 arguments spelled.6 parts.0),
+              (arguments-formed positions p kind for labels roots spelled.0.1.1.0.0 arguments spelled.0.1.1.0.1 parts.0),
           behind-formed positions p kind for labels roots behind parts.1,
         )
     given (All to members priority retry) spelled may g =
         let few : length (map (future_place positions.variables) members) ≤ 8 = rw length-map may in
-        let some : 0 < length (map (future_place positions.variables) members) = rw length-map (some-members members spelled.4) in
+        let some : 0 < length (map (future_place positions.variables) members) = rw length-map (some-members members spelled.0.1.0.1) in
         (future-formed positions p kind for to g.1.0, some, few, futures-formed positions p kind for labels roots members g.1.1)
     given (Copy to source) spelled may g = (future-formed positions p kind for to g.1.0, future-formed positions p kind for source g.1.1.0)
     given (Drop future) spelled may g = future-formed positions p kind for future g.1.0
@@ -141,4 +118,4 @@ step-formed positions p kind for state at labels roots label_place ahead s line 
       subst (λ n. place_of positions.states target < n) (sym for.states) (place-within positions.states target g.1.0),
       behind-formed positions p kind for labels roots behind g.1.1,
     )
-    given (Done value) spelled may g = term-formed positions p kind for labels roots spelled.0 value spelled.2 g.1.0
+    given (Done value) spelled may g = term-formed positions p kind for labels roots spelled.0.0.0 value spelled.0.0.1 g.1.0

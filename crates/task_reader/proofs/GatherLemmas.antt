@@ -1,11 +1,7 @@
 -- A list that is gathered item by item.
-use Rattle.std.proofs.Common.{◌≡◌, ◌≢◌, ◌≤◌, ◌<◌, ℕ, ◌+◌, true, false, List, [], ◌∷◌, ◌++◌, length, get_or, drop, refl, ap, sym, ◌∙◌, append_assoc, append-nil, length-append, arith}
-use Rattle.std.proofs.lemmas.List.{drop_more, drop_all}
-use Rattle.task_syntax.specs.declared.instr.Line.{Line}
-use Rattle.task_lines.specs.declared.step.Step.{Step}
-use Rattle.task_lines.specs.declared.item.What.{What}
+use Rattle.task_reader.proofs.Vocabulary.{◌≡◌, ◌≢◌, ◌≤◌, ◌<◌, ℕ, ◌+◌, true, false, List, [], ◌∷◌, ◌++◌, length, get_or, drop, refl, ap, sym, ◌∙◌, append-nil, arith, drop_more, drop_all, Line, Step, What, Item}
+use Rattle.std.proofs.Common.{append_assoc, length-append}
 use Rattle.task_lines.specs.declared.item.What.TheVariants as what
-use Rattle.task_lines.specs.declared.item.Item.{Item}
 use Rattle.task_reader.specs.declared.positions.Positions.{Positions}
 use Rattle.task_reader.specs.Program.{steps_to, instr_of, code_from, states_from, kinds_from, roots_from}
 use Rattle.task_reader.specs.Fits.{steps_ahead, root_names}

@@ -1,12 +1,6 @@
 -- What is known of the names of a line where none is unknown.
-use Rattle.std.proofs.Common.{◌≡◌, ℕ, ◌+◌, Bool, true, false, Option, Some, None, List, [], ◌∷◌, ◌++◌, map, Result, Ok, Err, refl, ap, ◌∙◌, subst}
-use Rattle.std.specs.Prelude.{IfSome}
-use Rattle.task_syntax.specs.Places.{Each}
-use Rattle.task_syntax.proofs.Differ.{each-nil, each-cons}
-use Rattle.task_syntax.specs.declared.program.Sort.TheVariants.{Future}
-use Rattle.task_text.specs.declared.fault.Fault.{Fault}
+use Rattle.task_reader.proofs.Vocabulary.{◌≡◌, ℕ, ◌+◌, Bool, true, false, Option, Some, None, List, [], ◌∷◌, ◌++◌, map, Result, Ok, Err, refl, ap, ◌∙◌, subst, IfSome, Each, each-nil, each-cons, Future, Fault, has_variable}
 use Rattle.task_text.specs.Fault.{◌>>◌}
-use Rattle.task_lines.specs.Scope.{has_variable}
 use Rattle.task_reader.specs.Uses.{Use, behind_uses, futures_uses}
 use Rattle.task_reader.specs.Uses.{UsesFuture}
 use Rattle.task_reader.specs.Names.{Known, is_given, known, uses_known}

@@ -1,17 +1,8 @@
 -- The first unknown name of a list is where its look-up stops.
-use Rattle.std.proofs.Common.{◌≡◌, ◌≢◌, ℕ, suc, ◌+◌, Bool, true, false, cond, not, nat_lt, List, [], ◌∷◌, ◌++◌, map, length, Some, None, Result, Ok, Err, refl, ap, sym, ◌∙◌, arith}
-use Rattle.std.specs.List.{position, position_or_len}
-use Rattle.std.proofs.lemmas.Bool.Decides.{nat_tests}
-use Rattle.task_text.specs.declared.fault.Fault.{Fault}
-use Rattle.task_text.specs.declared.fault.Cause.TheVariants.{UnknownName}
-use Rattle.task_text.specs.Fault.{fault_at, ◌>>◌}
-use Rattle.task_syntax.specs.declared.program.Sort.TheVariants.{Future}
-use Rattle.task_lines.specs.Scope.{has_variable}
-use Rattle.task_lines.specs.declared.step.Term.{Term}
+use Rattle.task_reader.proofs.Vocabulary.{◌≡◌, ◌≢◌, ℕ, suc, ◌+◌, Bool, true, false, cond, not, nat_lt, List, [], ◌∷◌, ◌++◌, map, length, Some, None, Result, Ok, Err, refl, ap, sym, ◌∙◌, arith, position, position_or_len, nat_tests, Fault, UnknownName, fault_at, Future, has_variable, Term, Passed, RootTerm}
+use Rattle.task_text.specs.Fault.{◌>>◌}
 use Rattle.task_lines.specs.declared.step.Term.TheVariants as term
-use Rattle.task_lines.specs.declared.step.Passed.{Passed}
 use Rattle.task_lines.specs.declared.step.Passed.TheVariants as passed
-use Rattle.task_lines.specs.declared.item.RootTerm.{RootTerm}
 use Rattle.task_lines.specs.declared.item.RootTerm.TheVariants as root_term
 use Rattle.task_reader.specs.Uses.{Use, Plain, UsesFuture, term_use, passed_use, root_term_use, futures_uses}
 use Rattle.task_reader.specs.Names.{Known, is_given, known, uses_known}

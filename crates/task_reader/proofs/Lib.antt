@@ -1,3 +1,4 @@
+pub mod Vocabulary
 pub mod PlaceLemmas
 pub mod KnownLemmas
 pub mod AheadLemmas

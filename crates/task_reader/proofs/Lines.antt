@@ -1,19 +1,6 @@
 -- No two parts of a program stand at one line.
-use Rattle.std.proofs.Common.{◌≡◌, ℕ, zero, suc, ◌+◌, ◌<◌, ◌≤◌, Bool, true, false, cond, nat_eq, Some, List, [], ◌∷◌, ◌++◌, map, slice_get, refl, sym, ap, subst, arith}
-use Rattle.std.proofs.lemmas.Bool.{eqb-true, eq-eqb}
-use Rattle.std.specs.List.{flat_map}
-use Rattle.task_syntax.specs.Places.{AllDiffer}
-use Rattle.task_syntax.specs.Form.{lines_of_state, lines_of_kind}
-use Rattle.task_syntax.specs.declared.program.Root.{Root}
-use Rattle.task_syntax.specs.declared.instr.Line.{Line}
-use Rattle.task_syntax.proofs.Differ.{differ-nil, differ-cons}
-use Rattle.task_text.specs.Text.{Word, Row, words_of, code_of, with_row, rows_from}
-use Rattle.task_lines.specs.declared.item.What.{What}
+use Rattle.task_reader.proofs.Vocabulary.{◌≡◌, ℕ, zero, suc, ◌+◌, ◌<◌, ◌≤◌, Bool, true, false, cond, nat_eq, Some, List, [], ◌∷◌, ◌++◌, map, slice_get, refl, sym, ap, subst, arith, eqb-true, eq-eqb, flat_map, AllDiffer, lines_of_state, lines_of_kind, Root, Line, differ-nil, differ-cons, Word, Row, words_of, code_of, with_row, rows_from, What, Item, Scope, after, RowsSpellFrom}
 use Rattle.task_lines.specs.declared.item.What.TheVariants as what
-use Rattle.task_lines.specs.declared.item.Item.{Item}
-use Rattle.task_lines.specs.declared.scope.Scope.{Scope}
-use Rattle.task_lines.specs.Scope.{after}
-use Rattle.task_lines.specs.Grammar.{RowsSpellFrom}
 use Rattle.task_reader.specs.Names.{state_names}
 use Rattle.task_reader.specs.declared.positions.Positions.{Positions}
 use Rattle.task_reader.specs.Program.{code_from, states_from, variables_from, kind_of, kinds_from, root_of, roots_from}

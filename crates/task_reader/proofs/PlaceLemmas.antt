@@ -1,7 +1,5 @@
 -- The place of a name in a list.
-use Rattle.std.proofs.Common.{◌≡◌, ◌≤◌, ℕ, suc, ◌+◌, Bool, true, false, cond, not, List, [], ◌∷◌, length, unwrap_or, refl, arith}
-use Rattle.std.specs.List.{position, position_or_len}
-use Rattle.std.proofs.lemmas.Bool.Decides.{nat_tests}
+use Rattle.task_reader.proofs.Vocabulary.{◌≡◌, ◌≤◌, ℕ, suc, ◌+◌, Bool, true, false, cond, not, List, [], ◌∷◌, length, unwrap_or, refl, arith, position, position_or_len, nat_tests}
 use Rattle.task_reader.specs.Program.{place_where}
 
 le-step : (b : Bool) (m n : ℕ) → m ≤ n → cond b 0 (m + 1) ≤ suc n

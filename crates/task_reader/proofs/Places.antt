@@ -1,17 +1,5 @@
 -- The place of a name that is given.
-use Rattle.std.proofs.Common.{◌≡◌, ℕ, ◌+◌, ◌<◌, add-one, Bool, true, false, ◌||◌, cond, Some, List, [], ◌∷◌, length, slice_get, refl, sym, ◌∙◌, ap}
-use Rattle.std.proofs.lemmas.Option.{slice_get_within}
-use Rattle.std.specs.List.{list_any}
-use Rattle.std.specs.Cmp.Lexicographic.{same_text}
-use Rattle.task_syntax.specs.Names.{same_bytes}
-use Rattle.task_syntax.specs.Places.{IsNumberAt, IsFutureAt}
-use Rattle.task_syntax.specs.declared.program.Sort.{Sort}
-use Rattle.task_syntax.specs.declared.program.Sort.TheVariants.{Number, Future}
-use Rattle.task_syntax.specs.declared.program.Variable.{Variable}
-use Rattle.task_syntax.specs.declared.program.Kind.{Kind}
-use Rattle.task_syntax.proofs.Bools.{both}
-use Rattle.task_text.specs.Scan.{is_among}
-use Rattle.task_lines.specs.Scope.{same_sort, is_variable, has_variable}
+use Rattle.task_reader.proofs.Vocabulary.{◌≡◌, ℕ, ◌+◌, ◌<◌, add-one, Bool, true, false, ◌||◌, cond, Some, List, [], ◌∷◌, length, slice_get, refl, sym, ◌∙◌, ap, slice_get_within, list_any, same_text, same_bytes, IsNumberAt, IsFutureAt, Sort, Number, Future, Variable, Kind, both, is_among, same_sort, is_variable, has_variable}
 use Rattle.task_reader.specs.Program.{place_where, place_of, number_place, future_place}
 
 place-step : {A : Type 0} (test : A → Bool) (a : A) (more : List A) (b : Bool) → test a ≡ b

@@ -1,11 +1,5 @@
 -- A program is read where a text spells it, and nowhere else, and is well formed.
-use Rattle.std.proofs.Common.{◌≡◌, ℕ, List, Ok, ap, sym}
-use Rattle.task_syntax.specs.Form.{IsWellFormed}
-use Rattle.task_syntax.specs.declared.program.Program.{Program}
-use Rattle.task_lines.specs.Scope.{first_scope}
-use Rattle.task_lines.specs.Reading.{items_of}
-use Rattle.task_lines.proofs.Accepted.{goes-on, items_of-accepted}
-use Rattle.task_lines.proofs.Spelled.{result-parts, same-answer, items_of-spelled}
+use Rattle.task_reader.proofs.Vocabulary.{◌≡◌, ℕ, List, Ok, ap, sym, IsWellFormed, Program, first_scope, items_of, goes-on, items_of-accepted, result-parts, same-answer, items_of-spelled}
 use Rattle.task_reader.specs.Names.{names_known}
 use Rattle.task_reader.specs.Program.{program_of}
 use Rattle.task_reader.specs.Read.{program_in, Spelled}

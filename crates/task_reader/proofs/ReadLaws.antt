@@ -1,13 +1,6 @@
 -- What the reading of a text means for the answer.
-use Rattle.std.proofs.Common.{◌≡◌, ℕ, ◌<◌, ◌^◌, List, length, Result, Ok, Err, refl, sym, ◌∙◌, ap}
-use Rattle.task_syntax.specs.declared.program.Program.{Program}
-use Rattle.task_text.specs.declared.fault.Fault.{Fault}
-use Rattle.task_text.specs.declared.fault.TextError.{TextError}
+use Rattle.task_reader.proofs.Vocabulary.{◌≡◌, ℕ, ◌<◌, ◌^◌, List, length, Result, Ok, Err, refl, sym, ◌∙◌, ap, Program, Fault, TextError, Gives, number_of, Item, items_of, items_of-spelled}
 use Rattle.task_text.specs.declared.fault.TextError.TheVariants as text_error
-use Rattle.task_text.specs.Fault.{Gives, number_of}
-use Rattle.task_lines.specs.declared.item.Item.{Item}
-use Rattle.task_lines.specs.Reading.{items_of}
-use Rattle.task_lines.proofs.Spelled.{items_of-spelled}
 use Rattle.task_reader.specs.Fits.{Fit}
 use Rattle.task_reader.specs.Read.{program_in, GivesProgram, Spelled, Answers, error_of}
 use Rattle.task_reader.specs.Faults.{IsFirstFault, TellsFirst, Tells}

@@ -1,36 +1,8 @@
 -- The first fault of the rows of a text is what the reading gives.
-use Rattle.std.proofs.Common.{◌≡◌, ◌≢◌, ◌<◌, ℕ, zero, suc, ◌+◌, Bool, true, false, cond, Option, Some, None, List, [], ◌∷◌, ◌++◌, length, Result, Ok, Err, refl, sym, ◌∙◌, ap, subst, ◌⊎◌, inl, inr, arith}
-use Rattle.std.specs.Prelude.{codes}
-use Rattle.task_syntax.proofs.Differ.{differ-nil}
-use Rattle.task_syntax.specs.Names.{same_bytes}
-use Rattle.task_syntax.specs.declared.instr.MathOp.{MathOp}
+use Rattle.task_reader.proofs.Vocabulary.{◌≡◌, ◌≢◌, ◌<◌, ℕ, zero, suc, ◌+◌, Bool, true, false, cond, Option, Some, None, List, [], ◌∷◌, ◌++◌, length, Result, Ok, Err, refl, sym, ◌∙◌, ap, subst, ◌⊎◌, inl, inr, arith, codes, differ-nil, same_bytes, MathOp, Cause, NotText, NoEnd, UnknownWord, Fault, fault_at, Word, Row, lines_of, without_mark, rows_of, start_of, is_text, check_text, whole, same-bytes, whole-answers, ArePresent, RowsPresent, rows-present, read-whole, whole-words, Step, Math, What, Item, Place, Outside, Head, Code, Jumped, Ended, Scope, first_scope, after, opening, header_line, entry, read_line, is_open_state, is_cut_short, line_of, items_from, rows_behind_header, items_of, operation_word, Spells, MayBegin, MayStand, row-accepted, header-accepted, AreNew, line-taken}
 use Rattle.task_syntax.specs.declared.instr.MathOp.TheVariants as op
-use Rattle.task_text.specs.declared.fault.Cause.{Cause}
-use Rattle.task_text.specs.declared.fault.Cause.TheVariants.{NotText, NoEnd, UnknownWord}
-use Rattle.task_text.specs.declared.fault.Fault.{Fault}
-use Rattle.task_text.specs.Fault.{fault_at, ◌>>=◌}
-use Rattle.task_text.specs.Text.{Word, Row, lines_of, without_mark, rows_of}
-use Rattle.task_text.specs.Scan.{start_of, is_text, check_text, whole}
-use Rattle.task_text.proofs.Answering.{same-bytes, whole-answers}
-use Rattle.task_text.proofs.Whole.{ArePresent, RowsPresent, rows-present, read-whole, whole-words}
-use Rattle.task_lines.specs.declared.step.Step.{Step}
-use Rattle.task_lines.specs.declared.step.Step.TheVariants.{Set, Math, If, Goto, Label, Cell, Rows, Spawn, All, Copy, Drop, Get, Again, Done}
-use Rattle.task_lines.specs.declared.item.What.{What}
+use Rattle.task_text.specs.Fault.{◌>>=◌}
 use Rattle.task_lines.specs.declared.item.What.TheVariants as what
-use Rattle.task_lines.specs.declared.item.Item.{Item}
-use Rattle.task_lines.specs.declared.scope.Place.{Place}
-use Rattle.task_lines.specs.declared.scope.Place.TheVariants.{Outside, Head, Code, Jumped, Ended}
-use Rattle.task_lines.specs.declared.scope.Scope.{Scope}
-use Rattle.task_lines.specs.Scope.{first_scope, after}
-use Rattle.task_lines.specs.Keyword.{opening}
-use Rattle.task_lines.specs.Line.{header_line}
-use Rattle.task_lines.specs.Steps.{read_line}
-use Rattle.task_lines.specs.Reading.{is_open_state, is_cut_short, line_of, items_from, rows_behind_header, items_of}
-use Rattle.task_lines.specs.Grammar.{operation_word, Spells, SpellsStep, MayBegin, MayStand}
-use Rattle.task_lines.proofs.AcceptedText.{text-checked, spelled-text}
-use Rattle.task_lines.proofs.AcceptedLines.{line-answers}
-use Rattle.task_lines.proofs.SpelledParts.{AreNew}
-use Rattle.task_lines.proofs.Spelled.{line-taken}
 use Rattle.task_reader.specs.Asked.{Asked, cause_of, header_asked, opened_by, line_asked}
 use Rattle.task_reader.specs.Faults.{word_at, IsRefusedAt, AreAsAsked, IsNoTextAt, AreText, RowFault, EndsTooSoon, LeadTo, LineFault, no_row, in_header, in_row, too_soon, left_open}
 use Rattle.task_reader.proofs.AskedWords.{verdict, RowAgrees, whole-agrees}
@@ -94,7 +66,7 @@ word-clear (Err f) asked row agrees all =
 
 -- ---- lines
 
-stops : {A B : Type 0} (o : Result A Fault) (f : A → Result B Fault) (fault : Fault) → o ≡ Err fault → o >>= f ≡ Err fault
+pub stops : {A B : Type 0} (o : Result A Fault) (f : A → Result B Fault) (fault : Fault) → o ≡ Err fault → o >>= f ≡ Err fault
 stops o f fault e = ap (λ (p : Result _ Fault). p >>= f) e
 
 goes-on : {A B : Type 0} (o : Result A Fault) (f : A → Result B Fault) (a : A) (r : Result B Fault) → o ≡ Ok a → f a ≡ r → o >>= f ≡ r
@@ -118,64 +90,35 @@ abbrev pub IsEnd : What → Type 0
 IsEnd what.End = Unit {0}
 IsEnd _ = ⊥
 
-first-is : (words : List Word) (word other : Word) (rest : List Word) → word_at words 0 ≡ word → words ≡ other ∷ rest → other ≡ word
-first-is words word other rest e is = ap (λ ws. word_at ws 0) (sym is) ∙ e
+-- the word that opens a line is its first
+first-is : (words : List Word) (word : Word) (w : What) → Spells words w → word_at words 0 ≡ word → same_bytes (entry w).word word ≡ true
+first-is words word w s e = ap (λ first. same_bytes (entry w).word first) (sym (ap (λ ws. word_at ws 0) (sym s.1) ∙ e)) ∙ same-bytes (entry w).word
 
--- words whose bytes differ
-apart : (one other : Word) → same_bytes one other ≡ false → one ≡ other → ⊥
-apart one other n e = not-both (same_bytes one one) (same-bytes one) (ap (λ word. same_bytes one word) e ∙ n)
+-- the word is `state` or `end`
+abbrev IsStateOrEnd : Word → Type 0
+IsStateOrEnd word = (same_bytes word (codes "state") ≡ true) ⊎ (same_bytes word (codes "end") ≡ true)
 
-no-operation : (operation : MathOp) (word : Word) → operation_word operation ≡ word → (word ≡ codes "state") ⊎ (word ≡ codes "end") → ⊥
-no-operation op.Add word e (inl s) = apart (codes "add") (codes "state") refl (e ∙ s)
-no-operation op.Sub word e (inl s) = apart (codes "sub") (codes "state") refl (e ∙ s)
-no-operation op.Mul word e (inl s) = apart (codes "mul") (codes "state") refl (e ∙ s)
-no-operation op.Div word e (inl s) = apart (codes "div") (codes "state") refl (e ∙ s)
-no-operation op.Rem word e (inl s) = apart (codes "rem") (codes "state") refl (e ∙ s)
-no-operation op.Add word e (inr s) = apart (codes "add") (codes "end") refl (e ∙ s)
-no-operation op.Sub word e (inr s) = apart (codes "sub") (codes "end") refl (e ∙ s)
-no-operation op.Mul word e (inr s) = apart (codes "mul") (codes "end") refl (e ∙ s)
-no-operation op.Div word e (inr s) = apart (codes "div") (codes "end") refl (e ∙ s)
-no-operation op.Rem word e (inr s) = apart (codes "rem") (codes "end") refl (e ∙ s)
+no-operation : (operation : MathOp) → IsStateOrEnd (operation_word operation) → ⊥
+no-operation op.Add (inl e) = cc
+no-operation op.Add (inr e) = cc
+no-operation operation (inl e) = cc
+no-operation operation (inr e) = cc
 
 -- no instruction begins with these words
-abbrev BeginsNoStep : Word → Type 0
-BeginsNoStep word = (word ≡ codes "state") ⊎ (word ≡ codes "end")
+no-step : (step : Step) → IsStateOrEnd (entry (what.Step step)).word → ⊥
+no-step (Math operation to left right) b = no-operation operation b
+no-step step (inl e) = cc
+no-step step (inr e) = cc
 
-differs : (one two : Word) → same_bytes one (codes "state") ≡ false → same_bytes one (codes "end") ≡ false → one ≡ two → BeginsNoStep two → ⊥
-differs one two a b e (inl s) = apart one (codes "state") a (e ∙ s)
-differs one two a b e (inr s) = apart one (codes "end") b (e ∙ s)
+begins-state : (w : What) → same_bytes (entry w).word (codes "state") ≡ true → IsState w
+begins-state (what.State name holds settled) e = tt
+begins-state (what.Step step) e = absurd (no-step step (inl e))
+begins-state w e = cc
 
-no-step : (words : List Word) (step : Step) → SpellsStep words step → BeginsNoStep (word_at words 0) → ⊥
-no-step words (Set to value) s b = differs (codes "set") _ refl refl (first-is words _ _ _ refl s.1) b
-no-step words (Math operation to left right) s b = no-operation operation _ (first-is words _ _ _ refl s.2) b
-no-step words (If relation left right target) s b = differs (codes "if") _ refl refl (first-is words _ _ _ refl s.2) b
-no-step words (Goto target) s b = differs (codes "goto") _ refl refl (first-is words _ _ _ refl s.0) b
-no-step words (Label name) s b = differs (codes "label") _ refl refl (first-is words _ _ _ refl s.0) b
-no-step words (Cell to column row) s b = differs (codes "cell") _ refl refl (first-is words _ _ _ refl s.1) b
-no-step words (Rows to column) s b = differs (codes "rows") _ refl refl (first-is words _ _ _ refl s.0) b
-no-step words (Spawn to kind arguments behind priority retry) s b = differs (codes "spawn") _ refl refl (first-is words _ _ _ refl s.3) b
-no-step words (All to members priority retry) s b = differs (codes "all") _ refl refl (first-is words _ _ _ refl s.2) b
-no-step words (Copy to source) s b = differs (codes "copy") _ refl refl (first-is words _ _ _ refl s.0) b
-no-step words (Drop future) s b = differs (codes "drop") _ refl refl (first-is words _ _ _ refl s.0) b
-no-step words (Get to future) s b = differs (codes "get") _ refl refl (first-is words _ _ _ refl s.0) b
-no-step words (Again target behind priority) s b = differs (codes "again") _ refl refl (first-is words _ _ _ refl s.2) b
-no-step words (Done value) s b = differs (codes "done") _ refl refl (first-is words _ _ _ refl s.1) b
-
-begins-state : (words : List Word) (w : What) → Spells words w → word_at words 0 ≡ codes "state" → IsState w
-begins-state words (what.State name holds settled) s e = tt
-begins-state words (what.Step step) s e = absurd (no-step words step s (inl e))
-begins-state words (what.Kind name arguments) s e = absurd (apart (codes "kind") (codes "state") refl (first-is words (codes "state") (codes "kind") _ e s.1))
-begins-state words (what.Var variables) s e = absurd (apart (codes "var") (codes "state") refl (first-is words (codes "state") (codes "var") _ e s.1))
-begins-state words what.End s e = absurd (apart (codes "end") (codes "state") refl (first-is words (codes "state") (codes "end") _ e s))
-begins-state words (what.Root name kind arguments behind priority) s e = absurd (apart (codes "root") (codes "state") refl (first-is words (codes "state") (codes "root") _ e s.3))
-
-begins-end : (words : List Word) (w : What) → Spells words w → word_at words 0 ≡ codes "end" → IsEnd w
-begins-end words what.End s e = tt
-begins-end words (what.Step step) s e = absurd (no-step words step s (inr e))
-begins-end words (what.Kind name arguments) s e = absurd (apart (codes "kind") (codes "end") refl (first-is words (codes "end") (codes "kind") _ e s.1))
-begins-end words (what.Var variables) s e = absurd (apart (codes "var") (codes "end") refl (first-is words (codes "end") (codes "var") _ e s.1))
-begins-end words (what.State name holds settled) s e = absurd (apart (codes "state") (codes "end") refl (first-is words (codes "end") (codes "state") _ e s.2))
-begins-end words (what.Root name kind arguments behind priority) s e = absurd (apart (codes "root") (codes "end") refl (first-is words (codes "end") (codes "root") _ e s.3))
+begins-end : (w : What) → same_bytes (entry w).word (codes "end") ≡ true → IsEnd w
+begins-end what.End e = tt
+begins-end (what.Step step) e = absurd (no-step step (inr e))
+begins-end w e = cc
 
 -- no state or end is read outside of kinds
 cut-state : (place : Place) (w : What) → IsState w → place ≢ Outside → place ≢ Head → place ≢ Ended → is_cut_short place w ≡ true
@@ -203,8 +146,8 @@ outside-unlike scope words word first unknown outside all =
     let c : ◌≡◌ {A = Option Cause} None (Some UnknownWord) = sym here ∙ there in cc
 
 ends-cut : (scope : Scope) (words : List Word) (w : What) → Spells words w → AreAsAsked (line_asked scope) words → EndsTooSoon scope.place (word_at words 0) → is_cut_short scope.place w ≡ true
-ends-cut scope words w spelled all (inl h) = cut-state scope.place w (begins-state words w spelled h.0) (λ o. outside-unlike scope words (codes "state") h.0 refl o all) h.1 h.2
-ends-cut scope words w spelled all (inr h) = cut-end scope.place w (begins-end words w spelled h.0) (λ o. outside-unlike scope words (codes "end") h.0 refl o all) h.1
+ends-cut scope words w spelled all (inl h) = cut-state scope.place w (begins-state w (first-is words (codes "state") w spelled h.0)) (λ o. outside-unlike scope words (codes "state") h.0 refl o all) h.1 h.2
+ends-cut scope words w spelled all (inr h) = cut-end scope.place w (begins-end w (first-is words (codes "end") w spelled h.0)) (λ o. outside-unlike scope words (codes "end") h.0 refl o all) h.1
 
 -- a line that ends a state or a kind too soon is at fault
 soon-told : (scope : Scope) → AreNew 255 scope.variables → (row : Row) → ArePresent row.words → AreText row.words → AreAsAsked (line_asked scope) row.words
@@ -219,23 +162,6 @@ soon-told scope new row present text all soon =
     goes-on (check_text row) _ tt (Err (fault_at NoEnd row.line 0)) (text-clear row text)
     (goes-on (whole (read_line scope) row) _ got.0 (Err (fault_at NoEnd row.line 0)) got.1
     (ap (λ (b : Bool). cond {A = Result What Fault} b (Err (fault_at NoEnd row.line 0)) (Ok got.0)) cut))
-
-no-unclosed : (place : Place) → MayBegin place → is_open_state place ≡ false
-no-unclosed Head h = refl
-no-unclosed Ended h = refl
-no-unclosed place h = absurd h
-
-not-cut : (scope : Scope) (w : What) → MayStand scope w → is_cut_short scope.place w ≡ false
-not-cut scope (what.State name holds settled) may = no-unclosed scope.place may.0
-not-cut scope what.End may = ap (λ p. is_cut_short p what.End) may
-not-cut scope w may = refl
-
-line-accepted : (scope : Scope) (row : Row) (w : What) → Spells row.words w → MayStand scope w → line_of scope row ≡ Ok w
-unfolding line_of
-line-accepted scope row w spells may =
-    goes-on (check_text row) _ tt (Ok w) (text-checked row.words (spelled-text row.words w spells) row.line 1)
-    (goes-on (whole (read_line scope) row) _ w (Ok w) (whole-answers (read_line scope) row w (line-answers scope row.words w spells may (start_of row) refl))
-    (ap (λ (b : Bool). cond {A = Result What Fault} b (Err (fault_at NoEnd row.line 0)) (Ok w)) (not-cut scope w may)))
 
 -- ---- rows
 
@@ -254,7 +180,7 @@ rows-told : (last : ℕ) (before others : List Row) (scope end : Scope) (row : R
 unfolding items_from
 rows-told last [] others scope end row fault lines e = stops (line_of scope row) _ fault (subst (λ (s : Scope). line_of s row ≡ Err fault) (sym lines) e)
 rows-told last (first ∷ before) others scope end row fault lines e =
-    goes-on (line_of scope first) _ lines.0 (Err fault) (line-accepted scope first lines.0 lines.1 lines.2)
+    goes-on (line_of scope first) _ lines.0 (Err fault) (row-accepted scope first lines.0 lines.1 lines.2)
     (stops (items_from last (after scope lines.0) (before ++ row ∷ others)) _ fault (rows-told last before others (after scope lines.0) end row fault lines.3 e))
 
 end-told : (last : ℕ) (place : Place) → place ≢ Outside → ◌≡◌ {A = Result (List Item) Fault} (elim place [ Outside ↦ Ok [] | _ ↦ Err (fault_at NoEnd last 0) ]) (Err (fault_at NoEnd last 0))
@@ -265,7 +191,7 @@ rows-unclosed : (last : ℕ) (rows : List Row) (scope end : Scope) → LeadTo sc
 unfolding items_from
 rows-unclosed last [] scope end lines n = end-told last scope.place (subst (λ (s : Scope). s.place ≢ Outside) (sym lines) n)
 rows-unclosed last (row ∷ rows) scope end lines n =
-    goes-on (line_of scope row) _ lines.0 (Err (fault_at NoEnd last 0)) (line-accepted scope row lines.0 lines.1 lines.2)
+    goes-on (line_of scope row) _ lines.0 (Err (fault_at NoEnd last 0)) (row-accepted scope row lines.0 lines.1 lines.2)
     (stops (items_from last (after scope lines.0) rows) _ (fault_at NoEnd last 0) (rows-unclosed last rows (after scope lines.0) end lines.3 n))
 
 -- ---- the text
@@ -274,22 +200,6 @@ text-of : (text : List ℕ) (rows : List Row) (r : Result (List Item) Fault) →
     → (rows_behind_header rows >>= (λ (behind : List Row). items_from (length (lines_of (without_mark text))) first_scope behind)) ≡ r → items_of text ≡ r
 unfolding items_of
 text-of text rows r is e = ap (λ rows. rows_behind_header rows >>= (λ (behind : List Row). items_from (length (lines_of (without_mark text))) first_scope behind)) is ∙ e
-
--- a row that spells the header is read as one
-header-read : (header : Row) → header.words ≡ codes "ktask" ∷ codes "1" ∷ [] → whole header_line header ≡ Ok tt
-header-read header words = by (whole header_line header) (whole-agrees header_line header header_asked present (header-agrees (start_of header))) where
-  present : ArePresent header.words
-  present = subst ArePresent (sym words) (refl, (refl, tt))
-
-  by : (o : Result (Unit {0}) Fault) → RowAgrees o header header_asked → o ≡ Ok tt
-  by (Ok u) a = refl
-  by (Err f) a = let c : ◌≡◌ {A = Option (Cause × ℕ)} None (Some (f.cause, f.word)) = sym (ap (λ ws. verdict header_asked 1 ws) words) ∙ a.1 in cc
-
-header-accepted : (header : Row) (rows : List Row) → header.words ≡ codes "ktask" ∷ codes "1" ∷ [] → rows_behind_header (header ∷ rows) ≡ Ok rows
-unfolding rows_behind_header
-header-accepted header rows words =
-    goes-on (check_text header) _ tt (Ok rows) (subst (λ ws. check_text (record { line = header.line; words = ws }) ≡ Ok tt) (sym words) (text-checked (codes "ktask" ∷ codes "1" ∷ []) (refl, (refl, tt)) header.line 1))
-    (goes-on (whole header_line header) _ tt (Ok rows) (header-read header words) refl)
 
 header-told : (header : Row) (rows : List Row) (fault : Fault) → ArePresent header.words → RowFault header_asked header fault → rows_behind_header (header ∷ rows) ≡ Err fault
 unfolding rows_behind_header

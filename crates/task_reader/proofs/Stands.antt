@@ -1,23 +1,7 @@
 -- The names that items give, where each item may stand behind those before it.
-use Rattle.std.proofs.Common.{◌≡◌, ℕ, zero, suc, ◌+◌, ◌<◌, ◌≤◌, Some, List, [], ◌∷◌, ◌++◌, map, length, slice_get, refl, sym, ◌∙◌, ap, subst, arith}
+use Rattle.task_reader.proofs.Vocabulary.{◌≡◌, ℕ, zero, suc, ◌+◌, ◌<◌, ◌≤◌, Some, List, [], ◌∷◌, ◌++◌, map, length, slice_get, refl, sym, ◌∙◌, ap, subst, arith, append-nil, AllDiffer, labels_of, Root, Kind, State, Line, differ-nil, differ-snoc, Step, Goto, Label, Again, Done, What, Item, Place, Outside, Scope, after, place_behind, IsNew, CanBeSpelled, MayStand}
 use Rattle.std.proofs.lemmas.List.{append_assoc, length-append}
-use Rattle.task_syntax.specs.Places.{AllDiffer}
-use Rattle.task_syntax.specs.Form.{labels_of}
-use Rattle.task_syntax.specs.declared.program.Root.{Root}
-use Rattle.task_syntax.specs.declared.program.Kind.{Kind}
-use Rattle.task_syntax.specs.declared.program.State.{State}
-use Rattle.task_syntax.specs.declared.instr.Line.{Line}
-use Rattle.task_syntax.proofs.Differ.{differ-nil, differ-snoc}
-use Rattle.task_lines.specs.declared.step.Step.{Step}
-use Rattle.task_lines.specs.declared.step.Step.TheVariants.{Goto, Label, Again, Done}
-use Rattle.task_lines.specs.declared.item.What.{What}
 use Rattle.task_lines.specs.declared.item.What.TheVariants as what
-use Rattle.task_lines.specs.declared.item.Item.{Item}
-use Rattle.task_lines.specs.declared.scope.Place.{Place}
-use Rattle.task_lines.specs.declared.scope.Place.TheVariants.{Outside}
-use Rattle.task_lines.specs.declared.scope.Scope.{Scope}
-use Rattle.task_lines.specs.Scope.{after, place_behind}
-use Rattle.task_lines.specs.Grammar.{IsNew, CanBeSpelled, MayStand}
 use Rattle.task_reader.specs.Names.{kind_names, state_names, label_names, step_label}
 use Rattle.task_reader.specs.declared.positions.Positions.{Positions}
 use Rattle.task_reader.specs.Program.{instr_of, code_from, states_from, kind_of, kinds_from, root_of, roots_from}
@@ -65,10 +49,6 @@ one-name-more limit names name few new are = record {
   fit = omega (arith, length-append names (name ∷ []), few);
 }
 
-nothing-more : (names : List (List ℕ)) → names ++ [] ≡ names
-nothing-more [] = refl
-nothing-more (name ∷ names) = ap (λ more. name ∷ more) (nothing-more names)
-
 -- ---- kinds
 
 abbrev KindNames : List Item → Type 0
@@ -81,7 +61,7 @@ kind-names-step line (what.Kind name arguments) items further s stand are =
 kind-names-step line w items further s stand are = further (after s w) stand.2 are
 
 pub kind-names : (items : List Item) → KindNames items
-kind-names [] s stand are = rw nothing-more are
+kind-names [] s stand are = rw append-nil are
 kind-names (item ∷ items) s stand are = kind-names-step item.line item.what items (kind-names items) s stand are
 
 -- ---- roots
@@ -100,7 +80,7 @@ root-names-step line (what.Root name kind arguments behind priority) items furth
 root-names-step line w items further s stand are = further (after s w) stand.2 are
 
 pub root-names : (items : List Item) → RootNames items
-root-names [] s stand are = rw nothing-more are
+root-names [] s stand are = rw append-nil are
 root-names (item ∷ items) s stand are = root-names-step item.line item.what items (root-names items) s stand are
 
 -- ---- states of a kind
@@ -115,7 +95,7 @@ state-names-step line (what.State name holds settled) items further s in_kind st
     subst (AreNames 32) (append_assoc s.states (name ∷ []) (state_names items))
     (further (after s (what.State name holds settled)) tt stand.2 (one-name-more 32 s.states name stand.1.1 stand.1.2 are))
 state-names-step line (what.Step step) items further s in_kind stand are = further (after s (what.Step step)) (kind-behind step) stand.2 are
-state-names-step line what.End items further s in_kind stand are = rw nothing-more are
+state-names-step line what.End items further s in_kind stand are = rw append-nil are
 state-names-step line (what.Root name kind arguments behind priority) items further s in_kind stand are = absurd (no-outside s.place in_kind stand.1.0)
 
 pub state-names : (items : List Item) → StateNames items

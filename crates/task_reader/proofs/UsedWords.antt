@@ -1,18 +1,9 @@
 -- The words that spell a line spell the names that it uses, each at its place.
-use Rattle.std.proofs.Common.{◌≡◌, ℕ, zero, suc, Option, Some, None, List, [], ◌∷◌, ◌++◌, map, slice_get, refl, sym, ap, subst}
-use Rattle.std.specs.Prelude.{codes}
-use Rattle.task_text.specs.Text.{Word}
-use Rattle.task_lines.specs.declared.step.Term.{Term}
+use Rattle.task_reader.proofs.Vocabulary.{◌≡◌, ℕ, zero, suc, Option, Some, None, List, [], ◌∷◌, ◌++◌, map, slice_get, refl, sym, ap, subst, codes, Word, Term, Passed, Step, Set, Math, If, Goto, Label, Cell, Rows, Spawn, All, Copy, Drop, Get, Again, Done, RootTerm, What, SpellsTerm, SpellsPassed, SpellsRootTerm, SpellsFuture, EachSpells, SpellsFutures, SpellsBehind, Spells}
 use Rattle.task_lines.specs.declared.step.Term.TheVariants as term
-use Rattle.task_lines.specs.declared.step.Passed.{Passed}
 use Rattle.task_lines.specs.declared.step.Passed.TheVariants as passed
-use Rattle.task_lines.specs.declared.step.Step.{Step}
-use Rattle.task_lines.specs.declared.step.Step.TheVariants.{Set, Math, If, Goto, Label, Cell, Rows, Spawn, All, Copy, Drop, Get, Again, Done}
-use Rattle.task_lines.specs.declared.item.RootTerm.{RootTerm}
 use Rattle.task_lines.specs.declared.item.RootTerm.TheVariants as root_term
-use Rattle.task_lines.specs.declared.item.What.{What}
 use Rattle.task_lines.specs.declared.item.What.TheVariants as what
-use Rattle.task_lines.specs.Grammar.{SpellsTerm, SpellsPassed, SpellsRootTerm, SpellsFuture, EachSpells, SpellsFutures, SpellsBehind, SpellsStep, Spells}
 use Rattle.task_reader.specs.Uses.{Use, UsesFuture, UsesRoot, SpellsUse, term_use, passed_use, root_term_use, behind_uses, futures_uses, step_uses, line_uses}
 
 -- the words begin with one for each use, which spells it
@@ -79,48 +70,44 @@ futures-covered opening words more [] rest s c = subst (λ ws. Covers (ws ++ mor
 futures-covered opening words more (name ∷ names) rest s c =
     subst (λ ws. Covers (ws ++ more) (futures_uses (name ∷ names) ++ rest)) (sym s.1) (tt, each-covered SpellsFuture UsesFuture future-spelled s.0 (name ∷ names) more rest s.2 c)
 
-last-covered : (opening : Word) (words : List Word) (names : List (List ℕ)) → SpellsFutures opening words names → Covers words (futures_uses names)
-last-covered opening words [] s = tt
-last-covered opening words (name ∷ names) s = subst (λ ws. Covers ws (futures_uses (name ∷ names))) (sym s.1) (tt, whole s.0 (list-covered SpellsFuture UsesFuture future-spelled s.0 (name ∷ names) [] s.2)) where
-  whole : (ws : List Word) → Covers (ws ++ []) (map UsesFuture (name ∷ names)) → Covers ws (map UsesFuture (name ∷ names))
-  whole ws c = subst (λ ws. Covers ws (map UsesFuture (name ∷ names))) (nothing-more ws) c where
-    nothing-more : (xs : List Word) → xs ++ [] ≡ xs
-    nothing-more [] = refl
-    nothing-more (x ∷ xs) = ap (λ more. x ∷ more) (nothing-more xs)
+last-covered : (opening : Word) (words more : List Word) (names : List (List ℕ)) → SpellsFutures opening words names → Covers (words ++ more) (futures_uses names)
+last-covered opening words more [] s = tt
+last-covered opening words more (name ∷ names) s =
+    subst (λ ws. Covers (ws ++ more) (futures_uses (name ∷ names))) (sym s.1) (tt, list-covered SpellsFuture UsesFuture future-spelled s.0 (name ∷ names) more s.2)
 
 -- ---- lines
 
-step-covered : (words : List Word) (step : Step) → SpellsStep words step → Covers words (step_uses step)
-step-covered words (Set to value) s = subst (λ ws. Covers ws (step_uses (Set to value))) (sym s.1) (tt, (refl, (term-spelled s.0 value s.3, tt)))
+step-covered : (words : List Word) (step : Step) → Spells words (what.Step step) → Covers words (step_uses step)
+step-covered words (Set to value) s = subst (λ ws. Covers ws (step_uses (Set to value))) (sym s.1) (tt, (refl, (term-spelled s.0.1.0.0 value s.0.1.0.1, tt)))
 step-covered words (Math operation to left right) s =
-    subst (λ ws. Covers ws (step_uses (Math operation to left right))) (sym s.2) (tt, (refl, (term-spelled s.0 left s.4, (term-spelled s.1 right s.5, tt))))
+    subst (λ ws. Covers ws (step_uses (Math operation to left right))) (sym s.1) (tt, (refl, (term-spelled s.0.1.0.0 left s.0.1.0.1, (term-spelled s.0.1.1.0.0 right s.0.1.1.0.1, tt))))
 step-covered words (If relation left right target) s =
-    subst (λ ws. Covers ws (step_uses (If relation left right target))) (sym s.2) (tt, (term-spelled s.0 left s.3, (tt, (term-spelled s.1 right s.4, (tt, (refl, tt))))))
-step-covered words (Goto target) s = subst (λ ws. Covers ws (step_uses (Goto target))) (sym s.0) (tt, (refl, tt))
+    subst (λ ws. Covers ws (step_uses (If relation left right target))) (sym s.1) (tt, (term-spelled s.0.0.0 left s.0.0.1, (tt, (term-spelled s.0.1.1.0.0 right s.0.1.1.0.1, (tt, (refl, tt))))))
+step-covered words (Goto target) s = subst (λ ws. Covers ws (step_uses (Goto target))) (sym s.1) (tt, (refl, tt))
 step-covered words (Label name) s = tt
-step-covered words (Cell to column row) s = subst (λ ws. Covers ws (step_uses (Cell to column row))) (sym s.1) (tt, (refl, (tt, (term-spelled s.0 row s.4, tt))))
-step-covered words (Rows to column) s = subst (λ ws. Covers ws (step_uses (Rows to column))) (sym s.0) (tt, (refl, tt))
+step-covered words (Cell to column row) s = subst (λ ws. Covers ws (step_uses (Cell to column row))) (sym s.1) (tt, (refl, (tt, (term-spelled s.0.1.1.0.0 row s.0.1.1.0.1, tt))))
+step-covered words (Rows to column) s = subst (λ ws. Covers ws (step_uses (Rows to column))) (sym s.1) (tt, (refl, tt))
 step-covered words (Spawn to kind arguments behind priority retry) s =
-    subst (λ ws. Covers ws (step_uses (Spawn to kind arguments behind priority retry))) (sym s.3)
-    (tt, (refl, (refl, each-covered SpellsPassed passed_use passed-spelled s.0 arguments _ (behind_uses UsesFuture behind) s.6 (behind-covered UsesFuture (λ name. refl) s.1 _ behind s.7))))
+    subst (λ ws. Covers ws (step_uses (Spawn to kind arguments behind priority retry))) (sym s.1)
+    (tt, (refl, (refl, each-covered SpellsPassed passed_use passed-spelled s.0.1.1.0.0 arguments _ (behind_uses UsesFuture behind) s.0.1.1.0.1 (behind-covered UsesFuture (λ name. refl) s.0.1.1.1.0.0 _ behind s.0.1.1.1.0.1))))
 step-covered words (All to members priority retry) s =
-    subst (λ ws. Covers ws (step_uses (All to members priority retry))) (sym s.2) (tt, (refl, list-covered SpellsFuture UsesFuture future-spelled s.0 members _ s.5))
-step-covered words (Copy to source) s = subst (λ ws. Covers ws (step_uses (Copy to source))) (sym s.0) (tt, (refl, (refl, tt)))
-step-covered words (Drop future) s = subst (λ ws. Covers ws (step_uses (Drop future))) (sym s.0) (tt, (refl, tt))
-step-covered words (Get to future) s = subst (λ ws. Covers ws (step_uses (Get to future))) (sym s.0) (tt, (refl, (refl, tt)))
+    subst (λ ws. Covers ws (step_uses (All to members priority retry))) (sym s.1) (tt, (refl, list-covered SpellsFuture UsesFuture future-spelled s.0.1.0.0 members _ s.0.1.0.2))
+step-covered words (Copy to source) s = subst (λ ws. Covers ws (step_uses (Copy to source))) (sym s.1) (tt, (refl, (refl, tt)))
+step-covered words (Drop future) s = subst (λ ws. Covers ws (step_uses (Drop future))) (sym s.1) (tt, (refl, tt))
+step-covered words (Get to future) s = subst (λ ws. Covers ws (step_uses (Get to future))) (sym s.1) (tt, (refl, (refl, tt)))
 step-covered words (Again target behind priority) s =
-    subst (λ ws. Covers ws (step_uses (Again target behind priority))) (sym s.2) (tt, (refl, behind-covered UsesFuture (λ name. refl) s.0 s.1 behind s.4))
-step-covered words (Done value) s = subst (λ ws. Covers ws (step_uses (Done value))) (sym s.1) (tt, (term-spelled s.0 value s.2, tt))
+    subst (λ ws. Covers ws (step_uses (Again target behind priority))) (sym s.1) (tt, (refl, behind-covered UsesFuture (λ name. refl) s.0.1.0.0 _ behind s.0.1.0.1))
+step-covered words (Done value) s = subst (λ ws. Covers ws (step_uses (Done value))) (sym s.1) (tt, (term-spelled s.0.0.0 value s.0.0.1, tt))
 
 line-covered : (words : List Word) (w : What) → Spells words w → Covers words (line_uses w)
 line-covered words (what.Kind name arguments) s = tt
 line-covered words (what.Var variables) s = tt
-line-covered words (what.State name holds settled) s = subst (λ ws. Covers ws (line_uses (what.State name holds settled))) (sym s.2)
-    (tt, (tt, futures-covered (codes "holds") s.0 s.1 holds (futures_uses settled) s.4 (last-covered (codes "settled") s.1 settled s.5)))
+line-covered words (what.State name holds settled) s = subst (λ ws. Covers ws (line_uses (what.State name holds settled))) (sym s.1)
+    (tt, (tt, futures-covered (codes "holds") s.0.1.0.0 _ holds (futures_uses settled) s.0.1.0.1 (last-covered (codes "settled") s.0.1.1.0.0 [] settled s.0.1.1.0.1)))
 line-covered words (what.Step step) s = step-covered words step s
 line-covered words what.End s = tt
-line-covered words (what.Root name kind arguments behind priority) s = subst (λ ws. Covers ws (line_uses (what.Root name kind arguments behind priority))) (sym s.3)
-    (tt, (tt, (refl, each-covered SpellsRootTerm root_term_use root-term-spelled s.0 arguments _ (behind_uses UsesRoot behind) s.6 (behind-covered UsesRoot (λ name. refl) s.1 s.2 behind s.7))))
+line-covered words (what.Root name kind arguments behind priority) s = subst (λ ws. Covers ws (line_uses (what.Root name kind arguments behind priority))) (sym s.1)
+    (tt, (tt, (refl, each-covered SpellsRootTerm root_term_use root-term-spelled s.0.1.1.0.0 arguments _ (behind_uses UsesRoot behind) s.0.1.1.0.1 (behind-covered UsesRoot (λ name. refl) s.0.1.1.1.0.0 _ behind s.0.1.1.1.0.1))))
 
 -- the name that a line uses at a place is spelled by the word there
 pub use-spelled : (words : List Word) (w : What) → Spells words w → (place : ℕ) (used : Use) → slice_get (line_uses w) place ≡ Some used → SpelledAt words place used

@@ -1,13 +1,8 @@
 -- One item after the other.
-use Rattle.std.proofs.Common.{◌≡◌, ◌≤◌, ◌<◌, ℕ, ◌+◌, List, [], ◌∷◌, length, get_or, drop, Ok, Err, refl, ap, subst, sym, ◌∙◌, arith}
-use Rattle.std.proofs.lemmas.List.{drop_more, drop_all}
+use Rattle.task_reader.proofs.Vocabulary.{◌≡◌, ◌≤◌, ◌<◌, ℕ, ◌+◌, List, [], ◌∷◌, length, get_or, drop, Ok, Err, refl, ap, subst, sym, ◌∙◌, arith, drop_more, drop_all, TextError, Gives, What, Item, Scope, after, Fault}
+use Rattle.task_text.specs.declared.fault.TextError.TheVariants as error
 use Rattle.task_text.specs.Fault.{◌>>◌}
-use Rattle.task_lines.specs.declared.item.What.{What}
 use Rattle.task_lines.specs.declared.item.What.TheVariants as what
-use Rattle.task_lines.specs.declared.item.Item.{Item}
-use Rattle.task_lines.specs.declared.scope.Scope.{Scope}
-use Rattle.task_lines.specs.Scope.{after}
-use Rattle.task_text.specs.declared.fault.Fault.{Fault}
 use Rattle.task_reader.specs.Names.{kind_names, line_known, known_among, known_at, names_known}
 use Rattle.task_reader.specs.Fits.{IsShort, EachIsShort}
 
@@ -38,6 +33,14 @@ pub names-fault : (all items : List Item) (kinds : List (List ℕ)) (s : Scope) 
 names-fault all items kinds s at item fault k l e h =
     let q : line_known (known_at all s (drop (at + 1) items)) item.line item.what ≡ Err fault = rw (← k) h in
     names-turn all items s at item l e ∙ rw q refl
+
+-- the same, or memory fails
+pub names-fault-or : (all items : List Item) (kinds : List (List ℕ)) (s : Scope) (at : ℕ) (item : Item) (fault : TextError)
+    → kinds ≡ kind_names all → at < length items → item ≡ get_or items at item
+    → Gives {A = Unit {0}} {B = Unit {0}} (λ u. u) (Err fault) (line_known (known_among kinds s (drop (at + 1) items)) item.line item.what)
+    → Gives {A = Unit {0}} {B = Unit {0}} (λ u. u) (Err fault) (names_known all s (drop at items))
+names-fault-or all items kinds s at item (error.Fault fault) k l e h = names-fault all items kinds s at item fault k l e h
+names-fault-or all items kinds s at item error.Memory k l e h = tt
 
 pub names-next : (all items : List Item) (kinds : List (List ℕ)) (s : Scope) (at : ℕ) (item : Item) (u : Unit {0})
     → kinds ≡ kind_names all → at < length items → item ≡ get_or items at item

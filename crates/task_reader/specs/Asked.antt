@@ -7,11 +7,10 @@ use Rattle.task_text.specs.declared.fault.Cause.TheVariants.{NoHeader, UnknownWo
 use Rattle.task_text.specs.Text.{Word}
 use Rattle.task_text.specs.Scan.{is_missing, is_present, is_future, is_no_bad_number, is_operand, is_among}
 use Rattle.task_lines.specs.declared.keyword.Keyword.{Keyword}
-use Rattle.task_lines.specs.declared.keyword.Keyword.TheVariants as k
 use Rattle.task_lines.specs.declared.scope.Scope.{Scope}
 use Rattle.task_lines.specs.Keyword.{opening, relation_of, priority_of}
-use Rattle.task_lines.specs.Line.{is_variable_word, variable_of, is_new, is_root_argument}
-use Rattle.task_lines.specs.Steps.{is_argument}
+use Rattle.task_lines.specs.Line.{is_variable_word, variable_of, is_new, is_argument, is_root_argument}
+use Rattle.task_lines.specs.Table.{Part, GotoWord, AName, ANewName, ATarget, ATerm, ARelation, AFuture, KindVariables, MoreVariables, Arguments, RootArguments, Members, HeldFutures, SettledFutures, Predecessor, APriority, LastPriority, ARetry, names_of, parts_of, counted}
 
 -- ---- what may be asked
 
@@ -83,9 +82,10 @@ is_priority word = is_some (priority_of word)
 abbrev pub within : ℕ → ℕ → Test
 within count limit = (λ word. nat_lt count limit, TooMany)
 
--- a first word that opens one of at most `limit`
-abbrev pub opens : ℕ → ℕ → List Test
-opens count limit = (is_present, UnknownWord) ∷ within count limit ∷ []
+-- a first word, which opens one of at most so many lines where they are counted
+abbrev pub opens : Option (ℕ × ℕ) → List Test
+opens None = (is_present, UnknownWord) ∷ []
+opens (Some count) = (is_present, UnknownWord) ∷ within count.0 count.1 ∷ []
 
 -- a variable that is new behind those before the list and in it, of which there may be `limit`
 abbrev pub a_variable : ℕ → List Variable → List Word → List Test
@@ -139,47 +139,34 @@ settled_part next =
 abbrev pub header_asked : Asked
 header_asked = One ((same_bytes (codes "ktask"), NoHeader) ∷ []) (One ((same_bytes (codes "1"), NoHeader) ∷ []) End)
 
--- an instruction, of which a state has at most 64
-abbrev pub step_asked : Scope → Asked → Asked
-step_asked scope next = One (opens scope.steps 64) next
+-- what is asked of a part of a line, and then of what follows
+abbrev pub part_asked : Scope → Part → Asked → Asked
+part_asked s GotoWord next = One (this_word (codes "goto")) next
+part_asked s AName next = One a_name next
+part_asked s (ANewName named) next = One (new_name TwiceNamed (names_of s named)) next
+part_asked s ATarget next = One (new_name BackLabel s.labels) next
+part_asked s ATerm next = One an_operand next
+part_asked s ARelation next = One ((is_relation, UnknownWord) ∷ []) next
+part_asked s AFuture next = One a_future next
+part_asked s KindVariables next = Many is_present (a_variable 16 []) [] next
+part_asked s MoreVariables next = at_least_one is_present (a_variable 255 s.variables) next
+part_asked s Arguments next = Many is_argument an_argument [] next
+part_asked s RootArguments next = Many is_root_argument an_argument [] next
+part_asked s Members next = at_least_one is_future a_member next
+part_asked s HeldFutures next = holds_part next
+part_asked s SettledFutures next = settled_part next
+part_asked s Predecessor next = behind_part next
+part_asked s APriority next = priority_part next
+part_asked s LastPriority next = last_priority_part next
+part_asked s ARetry next = retry_part next
 
-abbrev pub math_asked : Scope → Asked
-math_asked scope = step_asked scope (One a_name (One an_operand (One an_operand End)))
+abbrev pub parts_asked : Scope → List Part → Asked → Asked
+parts_asked s [] next = next
+parts_asked s (part ∷ parts) next = part_asked s part (parts_asked s parts next)
 
 -- the line that a keyword opens
 abbrev pub keyword_asked : Scope → Keyword → Asked
-keyword_asked scope k.Kind =
-    One (opens (length scope.kinds) 64) (One (new_name TwiceNamed scope.kinds) (Many is_present (a_variable 16 []) [] End))
-keyword_asked scope k.Var =
-    One ((is_present, UnknownWord) ∷ []) (at_least_one is_present (a_variable 255 scope.variables) End)
-keyword_asked scope k.State =
-    One (opens (length scope.states) 32) (One (new_name TwiceNamed scope.states) (holds_part (settled_part End)))
-keyword_asked scope k.End = One ((is_present, UnknownWord) ∷ []) End
-keyword_asked scope k.Root =
-    One (opens (length scope.roots) 16) (One (new_name TwiceNamed scope.roots) (One a_name
-    (Many is_root_argument an_argument [] (behind_part (last_priority_part End)))))
-keyword_asked scope k.Label = step_asked scope (One (new_name TwiceNamed scope.labels) End)
-keyword_asked scope k.Set = step_asked scope (One a_name (One an_operand End))
-keyword_asked scope k.Add = math_asked scope
-keyword_asked scope k.Sub = math_asked scope
-keyword_asked scope k.Mul = math_asked scope
-keyword_asked scope k.Div = math_asked scope
-keyword_asked scope k.Rem = math_asked scope
-keyword_asked scope k.If =
-    step_asked scope (One an_operand (One ((is_relation, UnknownWord) ∷ []) (One an_operand
-    (One (this_word (codes "goto")) (One (new_name BackLabel scope.labels) End)))))
-keyword_asked scope k.Goto = step_asked scope (One (new_name BackLabel scope.labels) End)
-keyword_asked scope k.Cell = step_asked scope (One a_name (One a_name (One an_operand End)))
-keyword_asked scope k.Rows = step_asked scope (One a_name (One a_name End))
-keyword_asked scope k.Spawn =
-    step_asked scope (One a_future (One a_name
-    (Many is_argument an_argument [] (behind_part (priority_part (retry_part End))))))
-keyword_asked scope k.All = step_asked scope (One a_future (at_least_one is_future a_member (priority_part (retry_part End))))
-keyword_asked scope k.Copy = step_asked scope (One a_future (One a_future End))
-keyword_asked scope k.Drop = step_asked scope (One a_future End)
-keyword_asked scope k.Get = step_asked scope (One a_name (One a_future End))
-keyword_asked scope k.Again = step_asked scope (One a_name (behind_part (last_priority_part End)))
-keyword_asked scope k.Done = step_asked scope (One an_operand End)
+keyword_asked s keyword = One (opens (counted s keyword)) (parts_asked s (parts_of keyword) End)
 
 abbrev pub opened_by : Scope → Option Keyword → Asked
 opened_by scope None = One ((λ word. false, UnknownWord) ∷ []) End

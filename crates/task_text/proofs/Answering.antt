@@ -1,5 +1,5 @@
 -- What a parser answers where the words that it is for stand next.
-use Rattle.std.proofs.Common.{◌≡◌, ◌≢◌, ℕ, ◌<◌, Bool, true, false, not, ◌&&◌, cond, List, [], ◌∷◌, ◌++◌, drop, Ok, Err, refl, sym, ◌∙◌, ap, subst}
+use Rattle.std.proofs.Common.{◌≡◌, ◌≢◌, ℕ, ◌<◌, Bool, true, false, not, ◌&&◌, cond, List, [], ◌∷◌, ◌++◌, drop, Ok, Err, refl, sym, ◌∙◌, ap, subst, append-nil}
 use Rattle.std.proofs.lemmas.Bool.{lt-ltb, eq-eqb}
 use Rattle.std.proofs.lemmas.List.{append_assoc}
 use Rattle.task_syntax.specs.Names.{IsName, same_bytes, is_name}
@@ -118,10 +118,6 @@ abbrev pub ItemAnswers : {A : Type 0} → (Word → A → Type 0) → (List A �
 ItemAnswers {A} R Holds item = (found : List A) (a : A) (more : List A) (s : Scan) (word : Word) (rest : List Word)
     → Holds (found ++ a ∷ more) → R word a → s.left ≡ word ∷ rest → Answers (item found) s a rest
 
-nothing-more : {X : Type 0} (xs : List X) → xs ++ [] ≡ xs
-nothing-more [] = refl
-nothing-more (x ∷ xs) = ap (λ more. x ∷ more) (nothing-more xs)
-
 along-end : {A : Type 0} (test : Word → Bool) (item : List A → Parser A) (rest : List Word) (found : List A) (s : Scan) → s.left ≡ rest → test (first_of rest) ≡ false
     → Answers (each_along rest test item found) s found rest
 unfolding each_along
@@ -138,7 +134,7 @@ along-answers : {A : Type 0} (R : Word → A → Type 0) (Holds : List A → Typ
     → Answers (each_along (words ++ rest) test item found) s (found ++ items) rest
 unfolding each_along
 along-answers R Holds test item answers passes rest stop [] [] found s spell holds e =
-    subst (λ all. Answers (each_along rest test item found) s all rest) (sym (nothing-more found)) (along-end test item rest found s e stop)
+    subst (λ all. Answers (each_along rest test item found) s all rest) (sym (append-nil found)) (along-end test item rest found s e stop)
 along-answers R Holds test item answers passes rest stop [] (a ∷ items) found s spell holds e = absurd spell
 along-answers R Holds test item answers passes rest stop (word ∷ words) [] found s spell holds e = absurd spell
 along-answers {A} R Holds test item answers passes rest stop (word ∷ words) (a ∷ items) found s spell holds e =

@@ -1,5 +1,5 @@
 -- What a parser that answers has taken from the words of a row.
-use Rattle.std.proofs.Common.{◌≡◌, ◌≢◌, ℕ, ◌<◌, Bool, true, false, not, cond, nat_eq, List, [], ◌∷◌, ◌++◌, drop, Ok, Err, refl, sym, ◌∙◌, ap, subst}
+use Rattle.std.proofs.Common.{◌≡◌, ◌≢◌, ℕ, ◌<◌, Bool, true, false, not, cond, nat_eq, List, [], ◌∷◌, ◌++◌, drop, Ok, Err, refl, sym, ◌∙◌, ap, subst, append-nil}
 use Rattle.std.specs.Prelude.{nat_lt}
 use Rattle.std.specs.Cmp.Lexicographic.{same_text}
 use Rattle.std.proofs.lemmas.Bool.{ltb-true, eqb-true}
@@ -147,14 +147,10 @@ pub record TakesItems {A : Type 0} (R : Word → A → Type 0) (Holds : List A �
   pub spell : WordsSpell R words items
   pub holds : Holds r.0
 
-nothing-more : {X : Type 0} (xs : List X) → xs ++ [] ≡ xs
-nothing-more [] = refl
-nothing-more (x ∷ xs) = ap (λ more. x ∷ more) (nothing-more xs)
-
 no-items : {A : Type 0} (R : Word → A → Type 0) (Holds : List A → Type 0) (found : List A) (s : Scan) (r : List A × Scan) → Holds found
     → ◌≡◌ {A = Outcome (List A)} (Ok (found, s)) (Ok r) → TakesItems R Holds found s r
 no-items R Holds found s r holds e = subst (TakesItems R Holds found s) (same-ok (found, s) r e)
-    (record { words = []; items = []; left = refl; all = sym (nothing-more found); spell = tt; holds = holds })
+    (record { words = []; items = []; left = refl; all = sym (append-nil found); spell = tt; holds = holds })
 
 pub one-item-more : {A : Type 0} (R : Word → A → Type 0) (Holds : List A → Type 0) (found : List A) (s : Scan) (q : A × Scan) (r : List A × Scan)
     → TakesItem R Holds found s q → TakesItems R Holds (found ++ q.0 ∷ []) q.1 r → TakesItems R Holds found s r

@@ -1,5 +1,5 @@
 -- A row that was read whole, whose words are all there.
-use Rattle.std.proofs.Common.{◌≡◌, ℕ, ◌+◌, Bool, true, false, not, cond, List, [], ◌∷◌, ◌++◌, Result, Ok, Err, refl, ◌∙◌, ap, subst}
+use Rattle.std.proofs.Common.{◌≡◌, ℕ, ◌+◌, Bool, true, false, not, cond, List, [], ◌∷◌, ◌++◌, Result, Ok, Err, refl, ◌∙◌, ap, subst, append-nil}
 use Rattle.task_text.specs.declared.fault.Cause.TheVariants.{WordsLeft}
 use Rattle.task_text.specs.declared.fault.Fault.{Fault}
 use Rattle.task_text.specs.Text.{Word, Row, is_blank, begins_with_word, in_front, words_of, code_of, with_row, rows_from}
@@ -68,10 +68,7 @@ nothing-left [] h m = refl
 nothing-left (word ∷ words) h m = let c : not true ≡ true = subst (λ b. not b ≡ true) m h.0 in cc
 
 all-words : (words more all : List Word) → all ≡ words ++ more → more ≡ [] → all ≡ words
-all-words words more all e n = e ∙ (ap (λ m. words ++ m) n ∙ nothing-more words) where
-  nothing-more : (xs : List Word) → xs ++ [] ≡ xs
-  nothing-more [] = refl
-  nothing-more (x ∷ xs) = ap (λ more. x ∷ more) (nothing-more xs)
+all-words words more all e n = e ∙ (ap (λ m. words ++ m) n ∙ append-nil words)
 
 -- where a row is read whole, the words that were taken are all that it has
 pub whole-words : (row : Row) (words : List Word) (end : Scan) → ArePresent row.words → row.words ≡ words ++ end.left → is_missing (seen end) ≡ true → row.words ≡ words

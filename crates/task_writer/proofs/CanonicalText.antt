@@ -1,28 +1,8 @@
 -- The text of a well-formed program is canonical.
-use Rattle.std.proofs.Common.{◌≡◌, ◌≢◌, ℕ, true, false, List, [], ◌∷◌, ◌++◌, map, take, drop, refl, sym, ◌∙◌, ap, subst, arith, append_assoc, append-nil}
-use Rattle.std.specs.Prelude.{codes}
-use Rattle.std.specs.List.{flat_map, join_with_byte}
-use Rattle.std.proofs.lemmas.Fmt.{decimal_digit}
-use Rattle.task_syntax.specs.Form.{IsWellFormed}
-use Rattle.task_syntax.specs.declared.instr.MathOp.{MathOp}
+use Rattle.task_writer.proofs.Vocabulary.{◌≡◌, ◌≢◌, ℕ, true, false, List, [], ◌∷◌, ◌++◌, map, take, drop, refl, sym, ◌∙◌, ap, subst, arith, append_assoc, append-nil, codes, flat_map, join_with_byte, decimal_digit, IsWellFormed, MathOp, Line, Variable, State, Kind, Root, Program, Word, same-bytes, same_bytes, first_of, Step, What, Scope, first_scope, after, operation_word}
 use Rattle.task_syntax.specs.declared.instr.MathOp.TheVariants as op
-use Rattle.task_syntax.specs.declared.instr.Line.{Line}
-use Rattle.task_syntax.specs.declared.program.Variable.{Variable}
-use Rattle.task_syntax.specs.declared.program.State.{State}
-use Rattle.task_syntax.specs.declared.program.Kind.{Kind}
-use Rattle.task_syntax.specs.declared.program.Root.{Root}
-use Rattle.task_syntax.specs.declared.program.Program.{Program}
-use Rattle.task_text.specs.Text.{Word}
-use Rattle.task_text.proofs.Answering.{same-bytes}
-use Rattle.task_syntax.specs.Names.{same_bytes}
-use Rattle.task_text.specs.Scan.{first_of}
-use Rattle.task_lines.specs.declared.step.Step.{Step}
 use Rattle.task_lines.specs.declared.step.Step.TheVariants.{Set, Math, If, Goto, Label, Cell, Rows, Spawn, All, Copy, Drop, Get, Again, Done}
-use Rattle.task_lines.specs.declared.item.What.{What}
 use Rattle.task_lines.specs.declared.item.What.TheVariants as what
-use Rattle.task_lines.specs.declared.scope.Scope.{Scope}
-use Rattle.task_lines.specs.Scope.{first_scope, after}
-use Rattle.task_lines.specs.Grammar.{operation_word}
 use Rattle.task_writer.specs.Words.{line_words}
 use Rattle.task_writer.specs.Lines.{Names, kind_names, root_names, names_in, step_of, code_lines, state_lines, var_lines, kind_lines, root_line, lines_of_program}
 use Rattle.task_writer.specs.Text.{spaced, parted, line_text, header_words, text_of_lines, text_of}
@@ -61,7 +41,7 @@ text-parted p =
 
 each-tidy : (ws : List What) (s : Scope) → Stands s ws → EachTidy (map line_words ws)
 each-tidy [] s h = tt
-each-tidy (w ∷ ws) s h = (line-begun w h.0, line-tidy w h.0, each-tidy ws (after s w) h.2)
+each-tidy (w ∷ ws) s h = (line-begun w, line-tidy w h.0, each-tidy ws (after s w) h.2)
 
 one-tidy : IsTidy (codes "1")
 one-tidy = record {

@@ -1,8 +1,5 @@
 -- What stands in a list that is parted.
-use Rattle.std.proofs.Common.{◌≡◌, ℕ, suc, ◌+◌, ◌<◌, Some, List, [], ◌∷◌, ◌++◌, length, slice_get, refl, ◌∙◌, ap, arith}
-use Rattle.task_syntax.specs.Places.{AllDiffer}
-use Rattle.task_syntax.proofs.Differ.{differ-tail, differ-head}
-use Rattle.task_lines.specs.Grammar.{IsNew}
+use Rattle.task_writer.proofs.Vocabulary.{◌≡◌, ℕ, suc, ◌+◌, ◌<◌, Some, List, [], ◌∷◌, ◌++◌, length, slice_get, refl, ◌∙◌, ap, arith, AllDiffer, differ-tail, differ-head, IsNew}
 
 pub get-behind : {A : Type 0} (front back : List A) (i : ℕ) → slice_get (front ++ back) (length front + i) ≡ slice_get back i
 get-behind [] back i = let e : 0 + i ≡ i = omega arith in ap (slice_get back) e

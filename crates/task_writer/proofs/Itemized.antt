@@ -1,8 +1,5 @@
 -- Lines as items and as rows, each with its number.
-use Rattle.std.proofs.Common.{◌≡◌, ℕ, suc, ◌+◌, List, [], ◌∷◌, ◌++◌, length, sym, ◌∙◌, ap, arith}
-use Rattle.task_text.specs.Text.{Row}
-use Rattle.task_lines.specs.declared.item.What.{What}
-use Rattle.task_lines.specs.declared.item.Item.{Item}
+use Rattle.task_writer.proofs.Vocabulary.{◌≡◌, ℕ, suc, ◌+◌, List, [], ◌∷◌, ◌++◌, length, sym, ◌∙◌, ap, arith, Row, What, Item}
 use Rattle.task_writer.specs.Words.{line_words}
 
 -- the lines as items, the first on line `at`

@@ -1,24 +1,8 @@
 -- The names that the lines of a kind are written with are known.
-use Rattle.std.proofs.Common.{◌≡◌, ℕ, zero, suc, ◌+◌, true, List, [], ◌∷◌, ◌++◌, map, take, drop, length, Ok, refl, sym, ◌∙◌, ap, append_assoc, append-nil}
-use Rattle.std.proofs.lemmas.List.{take-append-drop}
-use Rattle.std.specs.List.{flat_map}
-use Rattle.task_syntax.specs.Places.{EachAt, Each}
-use Rattle.task_syntax.specs.Form.{IsFormedInstr, IsFormedState, IsFormedKind, IsLabelAhead, labels_of}
-use Rattle.task_syntax.specs.declared.program.Variable.{Variable}
-use Rattle.task_syntax.specs.declared.program.State.{State}
-use Rattle.task_syntax.specs.declared.program.Kind.{Kind}
-use Rattle.task_syntax.specs.declared.program.Program.{Program}
-use Rattle.task_syntax.specs.declared.instr.Instr.{Instr}
+use Rattle.task_writer.proofs.Vocabulary.{◌≡◌, ℕ, zero, suc, ◌+◌, true, List, [], ◌∷◌, ◌++◌, map, take, drop, length, Ok, refl, sym, ◌∙◌, ap, append_assoc, append-nil, take-append-drop, flat_map, EachAt, Each, IsFormedInstr, IsFormedState, IsFormedKind, IsLabelAhead, labels_of, Variable, State, Kind, Program, Instr, Line, is_among, What, Item, Scope, after, known_at, uses_known, line_known, names_known, given-known, given-both, futures-listed}
 use Rattle.task_syntax.specs.declared.instr.Instr.TheVariants.{Label}
-use Rattle.task_syntax.specs.declared.instr.Line.{Line}
-use Rattle.task_text.specs.Scan.{is_among}
-use Rattle.task_lines.specs.declared.item.What.{What}
 use Rattle.task_lines.specs.declared.item.What.TheVariants as what
-use Rattle.task_lines.specs.declared.item.Item.{Item}
-use Rattle.task_lines.specs.declared.scope.Scope.{Scope}
-use Rattle.task_lines.specs.Scope.{after}
-use Rattle.task_reader.specs.Names.{known_at, uses_known, line_known, names_known, kind_names as names_of_kinds, state_names as names_of_states, label_names as names_of_labels}
-use Rattle.task_reader.proofs.Known.{given-known, given-both, futures-listed}
+use Rattle.task_reader.specs.Names.{kind_names as names_of_kinds, state_names as names_of_states, label_names as names_of_labels}
 use Rattle.task_writer.specs.Lines.{name_at, kind_names, state_names, label_names, names_in, step_of, code_lines, state_lines, var_lines, kind_lines}
 use Rattle.task_writer.proofs.Itemized.{items_at}
 use Rattle.task_writer.proofs.Skipped.{skipped, skips-code, inner_lines}

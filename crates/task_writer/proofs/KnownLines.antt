@@ -1,17 +1,7 @@
 -- The names that the lines of a well-formed program are written with are known.
-use Rattle.std.proofs.Common.{◌≡◌, ℕ, ◌+◌, ◌<◌, true, List, [], ◌∷◌, ◌++◌, map, length, slice_get, Some, Ok, refl, sym, ◌∙◌, ap, subst, append_assoc}
-use Rattle.std.proofs.lemmas.List.{length-append}
-use Rattle.task_syntax.specs.Places.{EachAt}
-use Rattle.task_syntax.specs.Form.{IsWellFormed, IsFormedRoot, IsFormedRootArgument}
-use Rattle.task_syntax.specs.declared.program.RootArgument.{RootArgument}
+use Rattle.task_writer.proofs.Vocabulary.{◌≡◌, ℕ, ◌+◌, ◌<◌, true, List, [], ◌∷◌, ◌++◌, map, length, slice_get, Some, Ok, refl, sym, ◌∙◌, ap, subst, append_assoc, length-append, EachAt, IsWellFormed, IsFormedRoot, IsFormedRootArgument, RootArgument, Root, Program, Item, after, first_scope, UsesRoot, root_term_use, given-known, given-both, Known, known_at, is_given, line_known, names_known}
 use Rattle.task_syntax.specs.declared.program.RootArgument.TheVariants as root_argument
-use Rattle.task_syntax.specs.declared.program.Root.{Root}
-use Rattle.task_syntax.specs.declared.program.Program.{Program}
-use Rattle.task_lines.specs.declared.item.Item.{Item}
-use Rattle.task_lines.specs.Scope.{after, first_scope}
-use Rattle.task_reader.specs.Uses.{UsesRoot, root_term_use}
-use Rattle.task_reader.proofs.Known.{given-known, given-both}
-use Rattle.task_reader.specs.Names.{Known, known_at, is_given, line_known, names_known, kind_names as names_of_kinds}
+use Rattle.task_reader.specs.Names.{kind_names as names_of_kinds}
 use Rattle.task_writer.specs.Lines.{name_at, kind_names, root_names, root_term_of, root_line, lines_of_program}
 use Rattle.task_writer.proofs.Itemized.{items_at}
 use Rattle.task_writer.proofs.ReadPlaces.{name-among}

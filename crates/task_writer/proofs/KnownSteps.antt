@@ -1,25 +1,10 @@
 -- The names that an instruction is written with are known.
-use Rattle.std.proofs.Common.{◌≡◌, ℕ, zero, suc, ◌<◌, true, Option, Some, None, option_map, List, [], ◌∷◌, map, length, Result, Ok, refl}
-use Rattle.std.specs.Prelude.{IfSome}
-use Rattle.std.proofs.lemmas.List.{length-map}
-use Rattle.task_syntax.specs.Places.{Each, IsNumberAt, IsFutureAt}
-use Rattle.task_syntax.specs.Form.{IsFormedOperand, IsFormedArgument, IsFormedInstr, IsLabelAhead}
+use Rattle.task_writer.proofs.Vocabulary.{◌≡◌, ℕ, zero, suc, ◌<◌, true, Option, Some, None, List, [], ◌∷◌, map, length, Result, Ok, refl, IfSome, length-map, Each, IsNumberAt, IsFutureAt, IsFormedOperand, IsFormedArgument, IsFormedInstr, IsLabelAhead, State, Kind, Program, Operand, Argument, Instr, Fault, ◌>>◌, is_among, Use, UsesNumber, UsesFuture, term_use, passed_use, behind_uses, step_uses, Known, is_given, AllGiven, given-both}
+use Rattle.std.proofs.Common.{option_map}
 use Rattle.task_syntax.specs.declared.program.Sort.TheVariants as sort
-use Rattle.task_syntax.specs.declared.program.State.{State}
-use Rattle.task_syntax.specs.declared.program.Kind.{Kind}
-use Rattle.task_syntax.specs.declared.program.Program.{Program}
-use Rattle.task_syntax.specs.declared.instr.Operand.{Operand}
 use Rattle.task_syntax.specs.declared.instr.Operand.TheVariants as operand
-use Rattle.task_syntax.specs.declared.instr.Argument.{Argument}
 use Rattle.task_syntax.specs.declared.instr.Argument.TheVariants as argument
-use Rattle.task_syntax.specs.declared.instr.Instr.{Instr}
 use Rattle.task_syntax.specs.declared.instr.Instr.TheVariants.{Set, Math, If, Goto, Label, Cell, Rows, Spawn, All, Copy, Drop, Get, Again, Done}
-use Rattle.task_text.specs.declared.fault.Fault.{Fault}
-use Rattle.task_text.specs.Fault.{◌>>◌}
-use Rattle.task_text.specs.Scan.{is_among}
-use Rattle.task_reader.specs.Uses.{Use, UsesNumber, UsesFuture, term_use, passed_use, behind_uses, step_uses}
-use Rattle.task_reader.specs.Names.{Known, is_given}
-use Rattle.task_reader.proofs.Known.{AllGiven, given-both}
 use Rattle.task_writer.specs.Lines.{name_at, kind_names, variable_names, state_names, label_names, names_in, term_of, passed_of, step_of}
 use Rattle.task_writer.proofs.ReadPlaces.{position-among, variable-known, stands-at}
 use Rattle.task_writer.proofs.ReadCode.{at_variable}

@@ -1,3 +1,5 @@
+pub mod Vocabulary
+pub mod WrittenParts
 pub mod CanonicalText
 pub mod Found
 pub mod Itemized

@@ -1,7 +1,6 @@
 -- The name at a position is that of what stands there.
-use Rattle.std.proofs.Common.{◌≡◌, ℕ, List, [], map, slice_get, Some, None, unwrap_or, ◌∙◌, ap}
+use Rattle.task_writer.proofs.Vocabulary.{◌≡◌, ℕ, List, [], map, slice_get, Some, None, unwrap_or, ◌∙◌, ap, slice_get-map}
 use Rattle.std.specs.Option.{option_map}
-use Rattle.std.proofs.lemmas.Option.{slice_get-map}
 use Rattle.task_writer.specs.Lines.{name_at}
 
 pub name-found : {X : Type 0} (name : X → List ℕ) (xs : List X) (at : ℕ) (x : X) → slice_get xs at ≡ Some x → name_at (map name xs) at ≡ name x

@@ -1,40 +1,19 @@
 -- The words of a line that may be written are tidy.
-use Rattle.std.proofs.Common.{◌≡◌, ◌≢◌, ℕ, ◌<◌, ◌≤◌, ◌^◌, Bool, true, false, not, ◌&&◌, ◌||◌, nat_le, nat_eq, Option, Some, None, List, [], ◌∷◌, ◌++◌, map, length, refl, sym, ◌∙◌, ap, arith, inl, inr}
-use Rattle.std.specs.Prelude.{codes, decimal, IfSome}
-use Rattle.std.specs.List.{list_all}
-use Rattle.std.proofs.lemmas.Bool.{leb-true, le-leb, eqb-true}
-use Rattle.task_syntax.specs.Names.{is_between, is_letter, is_digit, is_name_byte, is_reserved, begins_with_letter, IsName}
-use Rattle.task_syntax.specs.declared.program.Sort.{Sort}
+use Rattle.task_writer.proofs.Vocabulary.{◌≡◌, ◌≢◌, ℕ, ◌<◌, ◌≤◌, ◌^◌, Bool, true, false, not, ◌&&◌, ◌||◌, nat_le, nat_eq, Option, Some, None, List, [], ◌∷◌, ◌++◌, map, length, refl, sym, subst, ◌∙◌, ap, arith, inl, inr, codes, decimal, IfSome, list_all, leb-true, le-leb, eqb-true, is_between, is_letter, is_digit, is_name_byte, is_reserved, begins_with_letter, IsName, Sort, Variable, MathOp, Relation, Less, AtMost, Equal, Differs, Priority, High, Regular, Low, both, either, Word, begins_with_digit, Term, Passed, RootTerm, What, operation_word, between, all-pass, Part, GotoWord, AName, ANewName, ATarget, ATerm, ARelation, AFuture, KindVariables, MoreVariables, Arguments, RootArguments, Members, HeldFutures, SettledFutures, Predecessor, APriority, LastPriority, ARetry, Of, Values, entry}
 use Rattle.task_syntax.specs.declared.program.Sort.TheVariants as sort
-use Rattle.task_syntax.specs.declared.program.Variable.{Variable}
-use Rattle.task_syntax.specs.declared.instr.MathOp.{MathOp}
 use Rattle.task_syntax.specs.declared.instr.MathOp.TheVariants as op
-use Rattle.task_syntax.specs.declared.instr.Relation.{Relation}
-use Rattle.task_syntax.specs.declared.instr.Relation.TheVariants.{Less, AtMost, Equal, Differs}
-use Rattle.task_syntax.specs.declared.value.Priority.{Priority}
-use Rattle.task_syntax.specs.declared.value.Priority.TheVariants.{High, Regular, Low}
-use Rattle.task_syntax.proofs.Bools.{both, either}
-use Rattle.task_text.specs.Text.{Word}
-use Rattle.task_text.specs.Scan.{begins_with_digit}
-use Rattle.task_lines.specs.declared.step.Term.{Term}
 use Rattle.task_lines.specs.declared.step.Term.TheVariants as term
-use Rattle.task_lines.specs.declared.step.Passed.{Passed}
 use Rattle.task_lines.specs.declared.step.Passed.TheVariants as passed
-use Rattle.task_lines.specs.declared.step.Step.{Step}
 use Rattle.task_lines.specs.declared.step.Step.TheVariants.{Set, Math, If, Goto, Label, Cell, Rows, Spawn, All, Copy, Drop, Get, Again, Done}
-use Rattle.task_lines.specs.declared.item.RootTerm.{RootTerm}
 use Rattle.task_lines.specs.declared.item.RootTerm.TheVariants as root_term
-use Rattle.task_lines.specs.declared.item.What.{What}
 use Rattle.task_lines.specs.declared.item.What.TheVariants as what
-use Rattle.task_lines.specs.Grammar.{future_word, operation_word, relation_word, behind_words, retry_words}
-use Rattle.task_writer.specs.Words.{term_word, passed_word, root_term_word, variable_word, futures_words, priority_words, step_words, line_words}
+use Rattle.task_lines.specs.Grammar.{future_word, relation_word, behind_words, retry_words}
+use Rattle.task_writer.specs.Words.{term_word, passed_word, root_term_word, variable_word, futures_words, priority_words, line_words}
+use Rattle.task_writer.proofs.WrittenParts.{part_written, parts_written, written}
 use Rattle.task_writer.specs.Canonical.{is_plain, IsTidy, AllTidy}
-use Rattle.task_writer.proofs.Writable.{AllOf, IsWritableTerm, IsWritablePassed, IsWritableRootTerm, IsWritableVariable, IsWritableStep, IsWritable, decimal-digits, decimal-begun}
+use Rattle.task_writer.proofs.Writable.{AllOf, IsWritableTerm, IsWritablePassed, IsWritableRootTerm, IsWritableVariable, IsWritablePart, AreWritable, IsWritable, decimal-digits, decimal-begun}
 
 -- ---- bytes
-
-between : (low high byte : ℕ) → is_between low high byte ≡ true → (low ≤ byte) × (byte ≤ high)
-between low high byte h = let b = both (nat_le low byte) (nat_le byte high) h in (leb-true low byte b.0, leb-true byte high b.1)
 
 not-same : (byte n : ℕ) (b : Bool) → nat_eq byte n ≡ b → (byte ≡ n → ⊥) → not b ≡ true
 not-same byte n true e h = absurd (h (eqb-true byte n e))
@@ -60,10 +39,6 @@ name-byte-plain byte h = elim (either (is_letter byte || is_digit byte) (nat_eq 
   | inl a ↦ elim (either (is_letter byte) (is_digit byte) a) [ inl l ↦ letter-plain byte l | inr d ↦ digit-plain byte d ]
   | inr e ↦ plain-byte byte (omega (arith, eqb-true byte 95 e)) (omega (arith, eqb-true byte 95 e))
 ]
-
-all-pass : (p q : ℕ → Bool) → ((x : ℕ) → p x ≡ true → q x ≡ true) → (xs : List ℕ) → list_all p xs ≡ true → list_all q xs ≡ true
-all-pass p q h [] e = refl
-all-pass p q h (x ∷ xs) e = let b = both (p x) (list_all p xs) e in ap (λ c. c && list_all q xs) (h x b.0) ∙ all-pass p q h xs b.1
 
 -- ---- words
 
@@ -159,12 +134,12 @@ by-sort name sort.Future h = future-tidy name h
 variable-tidy : (v : Variable) → IsWritableVariable v → IsTidy (variable_word v)
 variable-tidy v h = by-sort v.name v.sort h
 
-operation-tidy : (operation : MathOp) → IsTidy (operation_word operation)
-operation-tidy op.Add = fixed-tidy (codes "add") refl
-operation-tidy op.Sub = fixed-tidy (codes "sub") refl
-operation-tidy op.Mul = fixed-tidy (codes "mul") refl
-operation-tidy op.Div = fixed-tidy (codes "div") refl
-operation-tidy op.Rem = fixed-tidy (codes "rem") refl
+operation-fixed : (operation : MathOp) → is_fixed (operation_word operation) ≡ true
+operation-fixed op.Add = refl
+operation-fixed op.Sub = refl
+operation-fixed op.Mul = refl
+operation-fixed op.Div = refl
+operation-fixed op.Rem = refl
 
 relation-tidy : (relation : Relation) → IsTidy (relation_word relation)
 relation-tidy Less = fixed-tidy (codes "<") refl
@@ -201,84 +176,54 @@ retry-tidy false = tt
 
 -- ---- lines
 
-step-tidy : (s : Step) → IsWritableStep s → AllTidy (step_words s)
-step-tidy (Set to value) h = (fixed-tidy (codes "set") refl, (name-tidy to h.0, (term-tidy value h.1, tt)))
-step-tidy (Math operation to left right) h = (operation-tidy operation, (name-tidy to h.0, (term-tidy left h.1, (term-tidy right h.2, tt))))
-step-tidy (If relation left right target) h =
-    (fixed-tidy (codes "if") refl, (term-tidy left h.0, (relation-tidy relation, (term-tidy right h.1, (fixed-tidy (codes "goto") refl, (name-tidy target h.2, tt))))))
-step-tidy (Goto target) h = (fixed-tidy (codes "goto") refl, (name-tidy target h, tt))
-step-tidy (Label name) h = (fixed-tidy (codes "label") refl, (name-tidy name h, tt))
-step-tidy (Cell to column row) h = (fixed-tidy (codes "cell") refl, (name-tidy to h.0, (name-tidy column h.1, (term-tidy row h.2, tt))))
-step-tidy (Rows to column) h = (fixed-tidy (codes "rows") refl, (name-tidy to h.0, (name-tidy column h.1, tt)))
-step-tidy (Spawn to kind arguments behind priority retry) h = (
-  fixed-tidy (codes "spawn") refl,
-  (
-    future-tidy to h.0,
-    (
-      name-tidy kind h.1,
-      append-tidy (map passed_word arguments) _ (each-tidy IsWritablePassed passed_word passed-tidy arguments h.2)
-          (append-tidy (behind_words behind) _ (behind-tidy behind h.3) (append-tidy (priority_words priority) _ (priority-tidy priority) (retry-tidy retry))),
-    ),
-  ),
-)
-step-tidy (All to members priority retry) h = (
-  fixed-tidy (codes "all") refl,
-  (
-    future-tidy to h.0,
-    append-tidy (map future_word members) _ (each-tidy IsName future_word future-tidy members h.2) (append-tidy (priority_words priority) _ (priority-tidy priority) (retry-tidy retry)),
-  ),
-)
-step-tidy (Copy to source) h = (fixed-tidy (codes "copy") refl, (future-tidy to h.0, (future-tidy source h.1, tt)))
-step-tidy (Drop future) h = (fixed-tidy (codes "drop") refl, (future-tidy future h, tt))
-step-tidy (Get to future) h = (fixed-tidy (codes "get") refl, (name-tidy to h.0, (future-tidy future h.1, tt)))
-step-tidy (Again target behind priority) h =
-    (fixed-tidy (codes "again") refl, (name-tidy target h.0, append-tidy (behind_words behind) _ (behind-tidy behind h.1) (priority-tidy priority)))
-step-tidy (Done value) h = (fixed-tidy (codes "done") refl, (term-tidy value h, tt))
+part-tidy : (part : Part) (v : Of part) → IsWritablePart part v → AllTidy (part_written part v)
+part-tidy GotoWord v h = (fixed-tidy (codes "goto") refl, tt)
+part-tidy AName name h = (name-tidy name h, tt)
+part-tidy (ANewName named) name h = (name-tidy name h, tt)
+part-tidy ATarget name h = (name-tidy name h, tt)
+part-tidy ATerm t h = (term-tidy t h, tt)
+part-tidy ARelation relation h = (relation-tidy relation, tt)
+part-tidy AFuture name h = (future-tidy name h, tt)
+part-tidy KindVariables variables h = each-tidy IsWritableVariable variable_word variable-tidy variables h
+part-tidy MoreVariables variables h = each-tidy IsWritableVariable variable_word variable-tidy variables h.1
+part-tidy Arguments arguments h = each-tidy IsWritablePassed passed_word passed-tidy arguments h
+part-tidy RootArguments arguments h = each-tidy IsWritableRootTerm root_term_word root-term-tidy arguments h
+part-tidy Members members h = each-tidy IsName future_word future-tidy members h.1
+part-tidy HeldFutures names h = futures-tidy (codes "holds") (fixed-tidy (codes "holds") refl) names h
+part-tidy SettledFutures names h = futures-tidy (codes "settled") (fixed-tidy (codes "settled") refl) names h
+part-tidy Predecessor behind h = behind-tidy behind h
+part-tidy APriority priority h = priority-tidy priority
+part-tidy LastPriority priority h = priority-tidy priority
+part-tidy ARetry retry h = retry-tidy retry
+
+parts-tidy : (ps : List Part) (vs : Values ps) → AreWritable ps vs → AllTidy (parts_written ps vs)
+parts-tidy [] vs h = tt
+parts-tidy (part ∷ []) vs h = part-tidy part vs.0 h.0
+parts-tidy (part ∷ next ∷ ps) vs h = append-tidy (part_written part vs.0) (parts_written (next ∷ ps) vs.1) (part-tidy part vs.0 h.0) (parts-tidy (next ∷ ps) vs.1 h.1)
+
+first-fixed : (w : What) → is_fixed (entry w).word ≡ true
+first-fixed (what.Step (Math operation to left right)) = operation-fixed operation
+first-fixed (what.Kind name arguments) = refl
+first-fixed (what.Var variables) = refl
+first-fixed (what.State name holds settled) = refl
+first-fixed what.End = refl
+first-fixed (what.Root name kind arguments behind priority) = refl
+first-fixed (what.Step (Set to value)) = refl
+first-fixed (what.Step (If relation left right target)) = refl
+first-fixed (what.Step (Goto target)) = refl
+first-fixed (what.Step (Label name)) = refl
+first-fixed (what.Step (Cell to column row)) = refl
+first-fixed (what.Step (Rows to column)) = refl
+first-fixed (what.Step (Spawn to kind arguments behind priority retry)) = refl
+first-fixed (what.Step (All to members priority retry)) = refl
+first-fixed (what.Step (Copy to source)) = refl
+first-fixed (what.Step (Drop future)) = refl
+first-fixed (what.Step (Get to future)) = refl
+first-fixed (what.Step (Again target behind priority)) = refl
+first-fixed (what.Step (Done value)) = refl
 
 pub line-tidy : (w : What) → IsWritable w → AllTidy (line_words w)
-line-tidy (what.Kind name arguments) h = (fixed-tidy (codes "kind") refl, (name-tidy name h.0, each-tidy IsWritableVariable variable_word variable-tidy arguments h.1))
-line-tidy (what.Var variables) h = (fixed-tidy (codes "var") refl, each-tidy IsWritableVariable variable_word variable-tidy variables h.1)
-line-tidy (what.State name holds settled) h = (
-  fixed-tidy (codes "state") refl,
-  (
-    name-tidy name h.0,
-    append-tidy (futures_words (codes "holds") holds) _ (futures-tidy (codes "holds") (fixed-tidy (codes "holds") refl) holds h.1)
-        (futures-tidy (codes "settled") (fixed-tidy (codes "settled") refl) settled h.2),
-  ),
-)
-line-tidy (what.Step step) h = step-tidy step h
-line-tidy what.End h = (fixed-tidy (codes "end") refl, tt)
-line-tidy (what.Root name kind arguments behind priority) h = (
-  fixed-tidy (codes "root") refl,
-  (
-    name-tidy name h.0,
-    (
-      name-tidy kind h.1,
-      append-tidy (map root_term_word arguments) _ (each-tidy IsWritableRootTerm root_term_word root-term-tidy arguments h.2)
-          (append-tidy (behind_words behind) _ (behind-tidy behind h.3) (priority-tidy priority)),
-    ),
-  ),
-)
+line-tidy w h = subst AllTidy (sym (written w)) (fixed-tidy (entry w).word (first-fixed w), parts-tidy (entry w).parts (entry w).values h)
 
-pub line-begun : (w : What) → IsWritable w → line_words w ≢ []
-line-begun (what.Kind name arguments) h e = cc
-line-begun (what.Var variables) h e = cc
-line-begun (what.State name holds settled) h e = cc
-line-begun (what.Step step) h e = by step e where
-  by : (s : Step) → step_words s ≢ []
-  by (Set to value) e = cc
-  by (Math operation to left right) e = cc
-  by (If relation left right target) e = cc
-  by (Goto target) e = cc
-  by (Label name) e = cc
-  by (Cell to column row) e = cc
-  by (Rows to column) e = cc
-  by (Spawn to kind arguments behind priority retry) e = cc
-  by (All to members priority retry) e = cc
-  by (Copy to source) e = cc
-  by (Drop future) e = cc
-  by (Get to future) e = cc
-  by (Again target behind priority) e = cc
-  by (Done value) e = cc
-line-begun what.End h e = cc
-line-begun (what.Root name kind arguments behind priority) h e = cc
+pub line-begun : (w : What) → line_words w ≢ []
+line-begun w e = let c : (entry w).word ∷ parts_written (entry w).parts (entry w).values ≡ [] = sym (written w) ∙ e in cc

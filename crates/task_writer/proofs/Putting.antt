@@ -1,14 +1,7 @@
 -- Lines that are written word by word.
-use Rattle.std.proofs.Common.{◌≡◌, ℕ, ◌+◌, ◌<◌, ◌≤◌, List, [], ◌∷◌, ◌++◌, map, length, take, get_or, sym, ◌∙◌, ap, append_assoc, append-nil}
-use Rattle.std.proofs.lemmas.List.{take_more, take_all, map-append}
-use Rattle.std.proofs.lemmas.Simd.{map-map}
+use Rattle.task_writer.proofs.Vocabulary.{◌≡◌, ℕ, ◌+◌, ◌<◌, ◌≤◌, List, [], ◌∷◌, ◌++◌, map, length, take, get_or, sym, ◌∙◌, ap, append_assoc, append-nil, take_more, take_all, map-append, map-map, ◌==◌, true, false, arith, eqb-true, flat_map-append, Word}
 use Rattle.task_lines.specs.Grammar.{future_word}
-use Rattle.std.specs.Prelude.{◌==◌}
-use Rattle.std.proofs.Common.{true, false, arith}
-use Rattle.std.proofs.lemmas.Bool.{eqb-true}
 use Rattle.task_writer.specs.Words.{futures_words}
-use Rattle.std.proofs.lemmas.Grind.{flat_map-append}
-use Rattle.task_text.specs.Text.{Word}
 use Rattle.task_writer.specs.Text.{spaced, parted, line_text}
 
 spaced-append : (xs ys : List Word) → spaced (xs ++ ys) ≡ spaced xs ++ spaced ys

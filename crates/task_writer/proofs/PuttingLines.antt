@@ -1,17 +1,5 @@
 -- Lines that are written one after the other.
-use Rattle.std.proofs.Common.{◌≡◌, ℕ, ◌+◌, ◌<◌, ◌≤◌, true, false, List, [], ◌∷◌, ◌++◌, map, length, take, drop, get_or, sym, ◌∙◌, ap, append_assoc, append-nil, refl, arith}
-use Rattle.std.specs.Prelude.{codes, ◌==◌}
-use Rattle.std.specs.List.{flat_map}
-use Rattle.std.proofs.lemmas.Grind.{flat_map-append}
-use Rattle.std.proofs.lemmas.List.{take_more, take_all, map-append}
-use Rattle.std.proofs.lemmas.Option.{slice_get_read}
-use Rattle.std.proofs.lemmas.Bool.{eqb-true}
-use Rattle.task_syntax.specs.Form.{IsWellFormed}
-use Rattle.task_syntax.specs.declared.program.Variable.{Variable}
-use Rattle.task_syntax.specs.declared.program.State.{State}
-use Rattle.task_syntax.specs.declared.program.Kind.{Kind}
-use Rattle.task_syntax.specs.declared.program.Program.{Program}
-use Rattle.task_lines.specs.declared.item.What.{What}
+use Rattle.task_writer.proofs.Vocabulary.{◌≡◌, ℕ, ◌+◌, ◌<◌, ◌≤◌, true, false, List, [], ◌∷◌, ◌++◌, map, length, take, drop, get_or, sym, ◌∙◌, ap, append_assoc, append-nil, refl, arith, codes, ◌==◌, flat_map, flat_map-append, take_more, take_all, map-append, slice_get_read, eqb-true, IsWellFormed, Variable, State, Kind, Program, What}
 use Rattle.task_writer.specs.Words.{variable_word, futures_words, line_words}
 use Rattle.task_writer.specs.Lines.{name_at, kind_names, variable_names, root_names, names_in, code_lines, state_lines, var_lines, kind_lines, root_line, lines_of_program, HaveArguments}
 use Rattle.task_writer.specs.Text.{spaced, line_text, header_words, text_of_lines, text_of}

@@ -1,14 +1,7 @@
 -- The line of a spawn, which is written in two parts.
-use Rattle.std.proofs.Common.{◌≡◌, ℕ, Bool, Option, option_map, Result, Ok, Err, OnOk, List, [], ◌∷◌, ◌++◌, map, sym, ◌∙◌, ap}
-use Rattle.std.specs.Prelude.{codes}
-use Rattle.task_syntax.specs.declared.value.Priority.{Priority}
-use Rattle.task_syntax.specs.declared.program.Variable.{Variable}
-use Rattle.task_syntax.specs.declared.program.State.{State}
-use Rattle.task_syntax.specs.declared.program.Kind.{Kind}
-use Rattle.task_syntax.specs.declared.instr.Argument.{Argument}
-use Rattle.task_syntax.specs.declared.instr.Instr.{Instr}
+use Rattle.task_writer.proofs.Vocabulary.{◌≡◌, ℕ, Bool, Option, Result, Ok, Err, OnOk, List, [], ◌∷◌, ◌++◌, map, sym, ◌∙◌, ap, codes, Priority, Variable, State, Kind, Argument, Instr, Word}
+use Rattle.std.proofs.Common.{option_map}
 use Rattle.task_syntax.specs.declared.instr.Instr.TheVariants.{Spawn}
-use Rattle.task_text.specs.Text.{Word}
 use Rattle.task_lines.specs.Grammar.{future_word, behind_words, retry_words}
 use Rattle.task_writer.specs.Words.{passed_word, priority_words, step_words}
 use Rattle.task_writer.specs.Lines.{name_at, kind_names, variable_names, names_in, passed_of, step_of}

@@ -1,19 +1,5 @@
 -- The canonical text of a well-formed program is read as that program.
-use Rattle.std.proofs.Common.{◌≡◌, ℕ, Bool, true, false, not, ◌&&◌, ◌||◌, nat_eq, nat_le, List, [], ◌∷◌, Ok, refl, sym, ◌∙◌, ap, subst, arith}
-use Rattle.std.specs.Prelude.{◌==◌}
-use Rattle.std.specs.List.{list_all}
-use Rattle.std.proofs.lemmas.Bool.{leb-true, eqb-true}
-use Rattle.task_syntax.specs.Form.{IsWellFormed}
-use Rattle.task_syntax.specs.declared.program.Program.{Program}
-use Rattle.task_syntax.specs.Names.{is_between}
-use Rattle.task_syntax.proofs.Bools.{both}
-use Rattle.task_text.specs.Text.{Word, Row, lines_of, without_mark, rows_from, rows_of}
-use Rattle.task_lines.specs.declared.item.What.{What}
-use Rattle.task_lines.specs.declared.scope.Scope.{Scope}
-use Rattle.task_lines.specs.Scope.{first_scope, after}
-use Rattle.task_lines.specs.Grammar.{RowsSpell}
-use Rattle.task_reader.specs.Read.{program_in, Spelled}
-use Rattle.task_reader.proofs.Read.{spelled-accepts}
+use Rattle.task_writer.proofs.Vocabulary.{◌≡◌, ℕ, Bool, true, false, not, ◌&&◌, ◌||◌, nat_eq, nat_le, List, [], ◌∷◌, Ok, refl, sym, ◌∙◌, ap, subst, arith, ◌==◌, list_all, leb-true, eqb-true, IsWellFormed, Program, is_between, both, Word, Row, lines_of, without_mark, rows_from, rows_of, What, Scope, first_scope, after, RowsSpell, program_in, Spelled, spelled-accepts}
 use Rattle.task_writer.specs.Words.{line_words}
 use Rattle.task_writer.specs.Lines.{lines_of_program}
 use Rattle.task_writer.specs.Text.{spaced, parted, line_text, header_words, text_of_lines, text_of}
@@ -68,7 +54,7 @@ is-row (word ∷ words) n h = all-solid (word ∷ words) h
 
 stand-rows : (ws : List What) (s : Scope) → Stands s ws → AreRows ws
 stand-rows [] s h = tt
-stand-rows (w ∷ ws) s h = (is-row (line_words w) (line-begun w h.0) (line-tidy w h.0), stand-rows ws (after s w) h.2)
+stand-rows (w ∷ ws) s h = (is-row (line_words w) (line-begun w) (line-tidy w h.0), stand-rows ws (after s w) h.2)
 
 -- ---- rows
 

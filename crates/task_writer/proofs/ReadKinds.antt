@@ -1,16 +1,7 @@
 -- The kinds of a program are read back.
-use Rattle.std.proofs.Common.{◌≡◌, ℕ, zero, suc, ◌+◌, List, [], ◌∷◌, ◌++◌, take, drop, length, refl, ◌∙◌, ap, append_assoc, arith}
-use Rattle.std.proofs.lemmas.List.{take-append-drop, length-take-le}
-use Rattle.std.specs.List.{flat_map}
-use Rattle.task_syntax.specs.Places.{Each, AllDiffer}
-use Rattle.task_syntax.specs.Form.{IsFormedKind}
-use Rattle.task_syntax.specs.declared.program.Kind.{Kind}
-use Rattle.task_syntax.specs.declared.program.Program.{Program}
-use Rattle.task_lines.specs.declared.item.What.{What}
+use Rattle.task_writer.proofs.Vocabulary.{◌≡◌, ℕ, zero, suc, ◌+◌, List, [], ◌∷◌, ◌++◌, take, drop, length, refl, ◌∙◌, ap, append_assoc, arith, take-append-drop, length-take-le, flat_map, Each, AllDiffer, IsFormedKind, Kind, Program, What, Positions, states_from, kind_of, kinds_from}
 use Rattle.task_lines.specs.declared.item.What.TheVariants as what
-use Rattle.task_reader.specs.declared.positions.Positions.{Positions}
 use Rattle.task_reader.specs.Names.{kind_names as names_of_kinds, state_names as names_of_states}
-use Rattle.task_reader.specs.Program.{states_from, kind_of, kinds_from}
 use Rattle.task_writer.specs.Lines.{kind_names, state_names, state_lines, var_lines, kind_lines}
 use Rattle.task_writer.specs.Numbering.{numbered_kind, numbered_kinds}
 use Rattle.task_writer.proofs.Itemized.{items_at}

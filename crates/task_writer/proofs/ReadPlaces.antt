@@ -1,18 +1,7 @@
 -- The place of a name is the position that it stands for.
-use Rattle.std.proofs.Common.{◌≡◌, ℕ, zero, suc, ◌<◌, Bool, true, ◌||◌, Option, Some, None, option_map, unwrap_or, List, [], ◌∷◌, length, slice_get, refl, sym, ◌∙◌, ap}
-use Rattle.std.proofs.lemmas.Option.{slice_get-get_or}
-use Rattle.std.specs.List.{list_any}
-use Rattle.task_syntax.specs.Names.{same_bytes}
-use Rattle.task_syntax.specs.Places.{AllDiffer}
-use Rattle.task_syntax.specs.declared.program.Sort.{Sort}
-use Rattle.task_syntax.specs.declared.program.Sort.TheVariants.{Number, Future}
-use Rattle.task_syntax.specs.declared.program.Variable.{Variable}
-use Rattle.task_syntax.proofs.Bools.{both, or_right}
-use Rattle.task_text.specs.Scan.{is_among}
-use Rattle.task_lines.proofs.SpelledParts.{same-bytes}
-use Rattle.task_lines.specs.Scope.{same_sort, is_variable, has_variable}
-use Rattle.task_reader.specs.Program.{place_where, place_of}
-use Rattle.task_reader.proofs.Places.{place-where, same-name}
+use Rattle.task_writer.proofs.Vocabulary.{◌≡◌, ℕ, zero, suc, ◌<◌, Bool, true, ◌||◌, Option, Some, None, unwrap_or, List, [], ◌∷◌, length, slice_get, refl, sym, ◌∙◌, ap, slice_get-get_or, list_any, same_bytes, AllDiffer, Sort, Future, Variable, both, or_right, is_among, same-bytes, same_sort, is_variable, has_variable, place_where, place_of, place-where, same-name}
+use Rattle.std.proofs.Common.{option_map}
+use Rattle.task_syntax.specs.declared.program.Sort.TheVariants.{Number}
 use Rattle.task_writer.specs.Lines.{name_at, variable_names}
 use Rattle.task_writer.proofs.Named.{name-found}
 

@@ -1,10 +1,6 @@
 -- The lines of a well-formed program are read as that program, with the numbers of the lines.
-use Rattle.std.proofs.Common.{◌≡◌, ◌+◌, [], map, length, refl, ◌∙◌}
-use Rattle.std.specs.List.{flat_map}
-use Rattle.task_syntax.specs.Form.{IsWellFormed}
-use Rattle.task_syntax.specs.declared.program.Program.{Program}
+use Rattle.task_writer.proofs.Vocabulary.{◌≡◌, ◌+◌, [], map, length, refl, ◌∙◌, flat_map, IsWellFormed, Program, program_of}
 use Rattle.task_reader.specs.Names.{kind_names as names_of_kinds}
-use Rattle.task_reader.specs.Program.{program_of}
 use Rattle.task_writer.specs.Lines.{kind_names, root_names, kind_lines, root_line, lines_of_program}
 use Rattle.task_writer.specs.Numbering.{renumbered}
 use Rattle.task_writer.proofs.Itemized.{items_at}

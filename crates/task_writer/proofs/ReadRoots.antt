@@ -1,18 +1,8 @@
 -- The roots of a program are read back.
-use Rattle.std.proofs.Common.{◌≡◌, ℕ, suc, ◌+◌, ◌<◌, List, [], ◌∷◌, ◌++◌, map, length, slice_get, Some, option_map, unwrap_or, refl, sym, ◌∙◌, ap, subst, append_assoc, arith}
-use Rattle.std.proofs.lemmas.List.{length-map, length-append}
-use Rattle.std.specs.List.{flat_map}
-use Rattle.task_syntax.specs.Places.{EachAt, AllDiffer}
-use Rattle.task_syntax.specs.Form.{IsFormedRoot, IsFormedRootArgument}
-use Rattle.task_syntax.specs.declared.program.RootArgument.{RootArgument}
+use Rattle.task_writer.proofs.Vocabulary.{◌≡◌, ℕ, suc, ◌+◌, ◌<◌, List, [], ◌∷◌, ◌++◌, map, length, slice_get, Some, unwrap_or, refl, sym, ◌∙◌, ap, subst, append_assoc, arith, length-map, length-append, flat_map, EachAt, AllDiffer, IsFormedRoot, IsFormedRootArgument, RootArgument, Kind, Root, Program, get-front, differ-front, What, place_of, root_argument_of, root_of, roots_from, kinds_from}
+use Rattle.std.proofs.Common.{option_map}
 use Rattle.task_syntax.specs.declared.program.RootArgument.TheVariants as root_argument
-use Rattle.task_syntax.specs.declared.program.Kind.{Kind}
-use Rattle.task_syntax.specs.declared.program.Root.{Root}
-use Rattle.task_syntax.specs.declared.program.Program.{Program}
-use Rattle.task_syntax.proofs.Differ.{get-front, differ-front}
-use Rattle.task_lines.specs.declared.item.What.{What}
 use Rattle.task_reader.specs.Names.{kind_names as names_of_kinds}
-use Rattle.task_reader.specs.Program.{place_of, root_argument_of, root_of, roots_from, kinds_from}
 use Rattle.task_writer.specs.Lines.{name_at, kind_names, root_names, kind_lines, root_term_of, root_line}
 use Rattle.task_writer.specs.Numbering.{numbered_roots}
 use Rattle.task_writer.proofs.Itemized.{items_at}

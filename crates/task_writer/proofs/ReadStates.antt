@@ -1,17 +1,6 @@
 -- The variables and the states of a kind are read back.
-use Rattle.std.proofs.Common.{◌≡◌, ℕ, zero, suc, ◌+◌, List, [], ◌∷◌, ◌++◌, map, length, refl, append_assoc, append-nil, arith}
-use Rattle.std.specs.List.{flat_map}
-use Rattle.task_syntax.specs.Places.{Each}
-use Rattle.task_syntax.specs.Form.{IsFormedState}
-use Rattle.task_syntax.specs.declared.program.Variable.{Variable}
-use Rattle.task_syntax.specs.declared.program.State.{State}
-use Rattle.task_syntax.specs.declared.program.Kind.{Kind}
-use Rattle.task_syntax.specs.declared.program.Program.{Program}
-use Rattle.task_lines.specs.declared.item.What.{What}
+use Rattle.task_writer.proofs.Vocabulary.{◌≡◌, ℕ, zero, suc, ◌+◌, List, [], ◌∷◌, ◌++◌, map, length, refl, append_assoc, append-nil, arith, flat_map, Each, IsFormedState, Variable, State, Kind, Program, What, Positions, state_names, states_from, variables_from}
 use Rattle.task_lines.specs.declared.item.What.TheVariants as what
-use Rattle.task_reader.specs.declared.positions.Positions.{Positions}
-use Rattle.task_reader.specs.Names.{state_names}
-use Rattle.task_reader.specs.Program.{states_from, variables_from}
 use Rattle.task_writer.specs.Lines.{kind_names, names_in, code_lines, state_lines, var_lines}
 use Rattle.task_writer.specs.Numbering.{numbered_states}
 use Rattle.task_writer.proofs.Itemized.{items_at}

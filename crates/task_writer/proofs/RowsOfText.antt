@@ -1,11 +1,6 @@
 -- The rows of a canonical text are the words of its lines.
-use Rattle.std.proofs.Common.{◌≡◌, ℕ, ◌+◌, Bool, true, false, not, ◌&&◌, cond, List, [], ◌∷◌, ◌++◌, refl, ◌∙◌, ap, append_assoc}
-use Rattle.std.specs.Prelude.{◌==◌, take}
-use Rattle.std.proofs.Math.Numerals.{one-add}
-use Rattle.std.specs.List.{list_all, prefix_len}
-use Rattle.task_syntax.proofs.Bools.{both}
-use Rattle.task_text.specs.Text.{Word, Row, is_blank, in_front, lines_of, code_of, begins_with_word, words_of, with_row, rows_from}
-use Rattle.task_lines.specs.declared.item.What.{What}
+use Rattle.task_writer.proofs.Vocabulary.{◌≡◌, ℕ, ◌+◌, Bool, true, false, not, ◌&&◌, cond, List, [], ◌∷◌, ◌++◌, refl, ◌∙◌, ap, append_assoc, ◌==◌, take, one-add, list_all, prefix_len, both, Word, Row, is_blank, in_front, lines_of, code_of, begins_with_word, with_row, rows_from, What}
+use Rattle.task_text.specs.Text.{words_of}
 use Rattle.task_writer.specs.Words.{line_words}
 use Rattle.task_writer.specs.Text.{spaced, parted, line_text, text_of_lines}
 use Rattle.task_writer.proofs.Itemized.{rows_at}

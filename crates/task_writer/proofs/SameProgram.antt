@@ -1,11 +1,5 @@
 -- Numbering a program changes its line numbers alone, and these are not printed.
-use Rattle.std.proofs.Common.{◌≡◌, ℕ, ◌+◌, List, [], ◌∷◌, ◌++◌, map, length, drop, take, refl, ◌∙◌, ap}
-use Rattle.std.specs.List.{flat_map}
-use Rattle.task_syntax.specs.declared.instr.Line.{Line}
-use Rattle.task_syntax.specs.declared.program.State.{State}
-use Rattle.task_syntax.specs.declared.program.Kind.{Kind}
-use Rattle.task_syntax.specs.declared.program.Root.{Root}
-use Rattle.task_syntax.specs.declared.program.Program.{Program}
+use Rattle.task_writer.proofs.Vocabulary.{◌≡◌, ℕ, ◌+◌, List, [], ◌∷◌, ◌++◌, map, length, drop, take, refl, ◌∙◌, ap, flat_map, Line, State, Kind, Root, Program}
 use Rattle.task_lines.specs.declared.item.What.TheVariants as what
 use Rattle.task_writer.specs.Lines.{Names, name_at, label_of, step_of, kind_names, variable_names, state_names, label_names, root_names, names_in, code_lines, state_lines, var_lines, kind_lines, root_line, lines_of_program}
 use Rattle.task_writer.specs.Text.{line_text, header_words, text_of_lines, text_of}

@@ -1,14 +1,6 @@
 -- Lines of which a reading takes no notice.
-use Rattle.std.proofs.Common.{◌≡◌, ℕ, suc, ◌+◌, List, [], ◌∷◌, ◌++◌, map, drop, length, ◌∙◌, ap, arith}
-use Rattle.std.specs.List.{flat_map}
-use Rattle.task_syntax.specs.declared.program.Variable.{Variable}
-use Rattle.task_syntax.specs.declared.program.State.{State}
-use Rattle.task_syntax.specs.declared.program.Kind.{Kind}
-use Rattle.task_syntax.specs.declared.instr.Line.{Line}
-use Rattle.task_lines.specs.declared.step.Step.{Step}
-use Rattle.task_lines.specs.declared.item.What.{What}
+use Rattle.task_writer.proofs.Vocabulary.{◌≡◌, ℕ, suc, ◌+◌, List, [], ◌∷◌, ◌++◌, map, drop, length, ◌∙◌, ap, arith, flat_map, Variable, State, Kind, Line, Step, What, Item}
 use Rattle.task_lines.specs.declared.item.What.TheVariants as what
-use Rattle.task_lines.specs.declared.item.Item.{Item}
 use Rattle.task_writer.specs.Lines.{names_in, code_lines, state_lines, var_lines}
 use Rattle.task_writer.proofs.Itemized.{items_at}
 

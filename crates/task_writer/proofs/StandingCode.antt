@@ -1,21 +1,8 @@
 -- The lines of a state of a well-formed program may stand one behind the other.
-use Rattle.std.proofs.Common.{◌≡◌, ℕ, suc, ◌+◌, Some, option_map, List, [], ◌∷◌, ◌++◌, length, slice_get, refl, sym, ◌∙◌, ap, subst, arith, append_assoc, append-nil}
-use Rattle.std.proofs.lemmas.List.{length-map, length-append}
-use Rattle.task_syntax.specs.Places.{AllDiffer, instr_at}
-use Rattle.task_syntax.specs.Form.{IsFormedInstr, IsFormedState, IsLabel, IsLabelAhead, Ends, Leaves, labels_of}
-use Rattle.task_syntax.specs.declared.program.State.{State}
-use Rattle.task_syntax.specs.declared.program.Kind.{Kind}
-use Rattle.task_syntax.specs.declared.program.Program.{Program}
-use Rattle.task_syntax.specs.declared.instr.Instr.{Instr}
+use Rattle.task_writer.proofs.Vocabulary.{◌≡◌, ℕ, suc, ◌+◌, Some, List, [], ◌∷◌, ◌++◌, length, slice_get, refl, sym, ◌∙◌, ap, subst, arith, append_assoc, append-nil, length-map, length-append, AllDiffer, instr_at, IsFormedInstr, IsFormedState, IsLabel, IsLabelAhead, Ends, Leaves, labels_of, State, Kind, Program, Instr, Line, What, Place, Outside, Code, Jumped, Ended, Scope, place_behind, labels_behind, after, IsNew, IsInState, MayFollow, MayName, MayStand, RowsSpellFrom}
+use Rattle.std.proofs.Common.{option_map}
 use Rattle.task_syntax.specs.declared.instr.Instr.TheVariants.{If, Goto, Label, Spawn, All, Again, Done}
-use Rattle.task_syntax.specs.declared.instr.Line.{Line}
-use Rattle.task_lines.specs.declared.item.What.{What}
 use Rattle.task_lines.specs.declared.item.What.TheVariants as what
-use Rattle.task_lines.specs.declared.scope.Place.{Place}
-use Rattle.task_lines.specs.declared.scope.Place.TheVariants.{Outside, Code, Jumped, Ended}
-use Rattle.task_lines.specs.declared.scope.Scope.{Scope}
-use Rattle.task_lines.specs.Scope.{place_behind, labels_behind, after}
-use Rattle.task_lines.specs.Grammar.{IsNew, IsInState, MayFollow, MayName, MayStand, RowsSpellFrom}
 use Rattle.task_writer.specs.Lines.{Names, name_at, kind_names, label_names, names_in, step_of, code_lines}
 use Rattle.task_writer.proofs.Itemized.{items_at, rows_at}
 use Rattle.task_writer.proofs.Writable.{IsWritable, line-spelled}

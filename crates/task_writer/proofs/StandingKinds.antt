@@ -1,27 +1,8 @@
 -- The lines of a well-formed program may stand one behind the other: states, kinds and roots.
-use Rattle.std.proofs.Common.{◌≡◌, ℕ, zero, suc, ◌<◌, ◌≤◌, Some, List, [], ◌∷◌, ◌++◌, map, length, take, drop, slice_get, refl, sym, ◌∙◌, ap, subst, arith, append_assoc, append-nil}
-use Rattle.std.specs.List.{flat_map}
-use Rattle.std.proofs.lemmas.List.{length-map, map-append, take-append-drop, length-take-le}
-use Rattle.task_syntax.specs.Names.{IsName}
-use Rattle.task_syntax.specs.Places.{Each, AllDiffer, IsFutureAt}
-use Rattle.task_syntax.specs.Form.{IsFormedState, IsFormedKind, IsFormedRootArgument, IsWellFormed}
+use Rattle.task_writer.proofs.Vocabulary.{◌≡◌, ℕ, zero, suc, ◌<◌, ◌≤◌, Some, List, [], ◌∷◌, ◌++◌, map, length, take, drop, slice_get, refl, sym, ◌∙◌, ap, subst, arith, append_assoc, append-nil, flat_map, length-map, map-append, take-append-drop, length-take-le, IsName, Each, AllDiffer, IsFutureAt, IsFormedState, IsFormedKind, IsFormedRootArgument, IsWellFormed, Variable, State, Kind, RootArgument, Root, Program, differ-front, differ-map, What, Place, Outside, Head, Ended, Scope, first_scope, after, is_variable, IsNew, MayBegin, place_where}
 use Rattle.task_syntax.specs.declared.program.Sort.TheVariants as sort
-use Rattle.task_syntax.specs.declared.program.Variable.{Variable}
-use Rattle.task_syntax.specs.declared.program.State.{State}
-use Rattle.task_syntax.specs.declared.program.Kind.{Kind}
-use Rattle.task_syntax.specs.declared.program.RootArgument.{RootArgument}
 use Rattle.task_syntax.specs.declared.program.RootArgument.TheVariants as root_argument
-use Rattle.task_syntax.specs.declared.program.Root.{Root}
-use Rattle.task_syntax.specs.declared.program.Program.{Program}
-use Rattle.task_syntax.proofs.Differ.{differ-front, differ-map}
-use Rattle.task_lines.specs.declared.item.What.{What}
 use Rattle.task_lines.specs.declared.item.What.TheVariants as what
-use Rattle.task_lines.specs.declared.scope.Place.{Place}
-use Rattle.task_lines.specs.declared.scope.Place.TheVariants.{Outside, Head, Ended}
-use Rattle.task_lines.specs.declared.scope.Scope.{Scope}
-use Rattle.task_lines.specs.Scope.{first_scope, after, is_variable}
-use Rattle.task_lines.specs.Grammar.{IsNew, MayBegin}
-use Rattle.task_reader.specs.Program.{place_where}
 use Rattle.task_writer.specs.Lines.{name_at, kind_names, variable_names, state_names, root_names, state_lines, var_lines, kind_lines, root_term_of, root_line, lines_of_program}
 use Rattle.task_writer.proofs.Writable.{AllOf, IsWritableVariable, IsWritableRootTerm}
 use Rattle.task_writer.proofs.WritableSteps.{are-named, position-named, variable-named, all-writable, some-writable}
@@ -82,7 +63,7 @@ state-stands p kind named formed kinds roots front state more e f tail next s i 
     let future = variable-named kind formed.variable_names sort.Future in
     let w = what.State state.name (map (name_at vs) state.holds) (map (name_at vs) state.settled) in
     let ns = s.states ++ state.name ∷ [] in (
-      (f.name, all-writable (IsFutureAt kind) IsName (name_at vs) future state.holds f.holds, all-writable (IsFutureAt kind) IsName (name_at vs) future state.settled f.settled),
+      (f.name, (all-writable (IsFutureAt kind) IsName (name_at vs) future state.holds f.holds, (all-writable (IsFutureAt kind) IsName (name_at vs) future state.settled f.settled, tt))),
       (
         place,
         count-below name front state more kind.states s.states 32 e i.states_are formed.states_fit,
@@ -144,7 +125,7 @@ locals-stand : (kind : Kind) (arguments locals : List Variable) (s : Scope) (tai
 locals-stand kind arguments [] s tail e differ fits named place is next = next s place refl refl (is ∙ (sym (append-nil arguments) ∙ e)) refl
 locals-stand kind arguments (v ∷ vs) s tail e differ fits named place is next =
     let all : s.variables ++ v ∷ vs ≡ kind.variables = ap (λ xs. xs ++ v ∷ vs) is ∙ e in (
-      (λ z. cc, named),
+      ((λ z. cc, named), tt),
       (place, subst (λ xs. AllDiffer xs) (sym all) differ, subst (λ (xs : List Variable). length xs ≤ 255) (sym all) fits),
       next (after s (what.Var (v ∷ vs))) place refl refl all refl,
     )
@@ -170,7 +151,7 @@ kind-stands p formed named front kind more e f tail s place is next =
     (λ t head tk tr tv ts. states-stand p kind named f kinds s.roots (what.End ∷ tail)
     (λ u i ended. (tt, ended, next (after u what.End) refl (i.kinds_are ∙ names-snoc name front kind s.kinds is) i.roots_are))
     kind.states refl t (record { kinds_are = tk; roots_are = tr; variables_are = tv; states_are = ts }) head) in (
-      (f.name, all-take IsWritableVariable n vs all),
+      (f.name, (all-take IsWritableVariable n vs all, tt)),
       (
         place,
         count-below name front kind more p.kinds s.kinds 64 e is formed.kinds_fit,
@@ -216,9 +197,13 @@ roots-stand p formed named rooted (root ∷ todo) front e s place is =
     let w = root_line (kind_names p.kinds) R root in (
       (
         f.name,
-        position-named (λ (k : Kind). k.name) p.kinds named root.kind f.kind,
-        all-writable (IsFormedRootArgument (length front)) IsWritableRootTerm (root_term_of R) (root-argument-writable p.roots rooted (length front) short) root.arguments f.arguments,
-        some-writable (λ earlier. earlier < length front) (name_at R) (λ earlier l. position-named name p.roots rooted earlier (omega (arith, l, short))) root.behind f.behind,
+        (
+          position-named (λ (k : Kind). k.name) p.kinds named root.kind f.kind,
+          (
+            all-writable (IsFormedRootArgument (length front)) IsWritableRootTerm (root_term_of R) (root-argument-writable p.roots rooted (length front) short) root.arguments f.arguments,
+            (some-writable (λ earlier. earlier < length front) (name_at R) (λ earlier l. position-named name p.roots rooted earlier (omega (arith, l, short))) root.behind f.behind, (tt, tt)),
+          ),
+        ),
       ),
       (
         place,

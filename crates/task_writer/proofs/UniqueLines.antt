@@ -1,37 +1,10 @@
 -- The lines of the program that items stand for are the lines of the items.
-use Rattle.std.proofs.Common.{◌≡◌, ◌≢◌, ℕ, suc, ◌+◌, true, Option, option_map, unwrap_or, List, [], ◌∷◌, ◌++◌, map, length, take, drop, slice_get, Ok, refl, sym, ◌∙◌, ap, subst, arith, append_assoc, append-nil}
-use Rattle.std.specs.List.{flat_map}
-use Rattle.std.proofs.Math.Seq.{take-append_seam, drop-append_seam}
-use Rattle.task_syntax.specs.Names.{same_bytes}
-use Rattle.task_syntax.specs.declared.program.Variable.{Variable}
-use Rattle.task_syntax.specs.declared.program.State.{State}
-use Rattle.task_syntax.specs.declared.program.Kind.{Kind}
-use Rattle.task_syntax.specs.declared.value.Priority.{Priority}
-use Rattle.task_syntax.specs.declared.instr.Line.{Line}
-use Rattle.task_syntax.proofs.Differ.{get-front}
-use Rattle.task_text.specs.Scan.{is_among}
-use Rattle.task_lines.specs.declared.step.Step.{Step}
+use Rattle.task_writer.proofs.Vocabulary.{◌≡◌, ◌≢◌, ℕ, suc, ◌+◌, true, Option, unwrap_or, List, [], ◌∷◌, ◌++◌, map, length, take, drop, slice_get, Ok, refl, sym, ◌∙◌, ap, subst, arith, append_assoc, append-nil, flat_map, take-append_seam, drop-append_seam, same_bytes, Variable, State, Kind, Priority, Line, get-front, is_among, Step, RootTerm, What, Item, Place, Outside, Head, Code, Ended, Scope, first_scope, after, place_behind, IsInState, MayBegin, MayFollow, Positions, UsesFuture, UsesRoot, root_term_use, behind_uses, futures_uses, root_uses, state_uses, step_uses, Known, is_given, known_at, uses_known, line_known, names_known, label_names, place_of, future_place, instr_of, steps_to, code_from, state_of, states_from, variables_from, kind_of, kinds_from, root_argument_of, root_of, roots_from, program_of, AllGiven, both-known, all-given, given-parts, futures-given, same-futures, known_for, known-is, place-where, same-name, Stand, item_at, names-of-kinds, names-of-roots, names-of-states}
+use Rattle.std.proofs.Common.{option_map}
 use Rattle.task_lines.specs.declared.step.Step.TheVariants.{Goto, Label, Again, Done}
-use Rattle.task_lines.specs.declared.item.RootTerm.{RootTerm}
 use Rattle.task_lines.specs.declared.item.RootTerm.TheVariants as root_term
-use Rattle.task_lines.specs.declared.item.What.{What}
 use Rattle.task_lines.specs.declared.item.What.TheVariants as what
-use Rattle.task_lines.specs.declared.item.Item.{Item}
-use Rattle.task_lines.specs.declared.scope.Place.{Place}
-use Rattle.task_lines.specs.declared.scope.Place.TheVariants.{Outside, Head, Code, Ended}
-use Rattle.task_lines.specs.declared.scope.Scope.{Scope}
-use Rattle.task_lines.specs.Scope.{first_scope, after, place_behind}
-use Rattle.task_lines.specs.Grammar.{IsInState, MayBegin, MayFollow}
-use Rattle.task_reader.specs.declared.positions.Positions.{Positions}
-use Rattle.task_reader.specs.Uses.{UsesFuture, UsesRoot, root_term_use, behind_uses, futures_uses, root_uses, state_uses, step_uses}
-use Rattle.task_reader.specs.Names.{Known, is_given, known_at, uses_known, line_known, names_known, label_names}
 use Rattle.task_reader.specs.Names as reader
-use Rattle.task_reader.specs.Program.{place_of, future_place, instr_of, steps_to, code_from, state_of, states_from, variables_from, kind_of, kinds_from, root_argument_of, root_of, roots_from, program_of}
-use Rattle.task_reader.proofs.Known.{AllGiven, both-known, all-given, given-parts, futures-given, same-futures}
-use Rattle.task_reader.proofs.FormedSteps.{known_for}
-use Rattle.task_reader.proofs.FormedCode.{known-is}
-use Rattle.task_reader.proofs.Places.{place-where, same-name}
-use Rattle.task_reader.proofs.Stands.{Stand, item_at, names-of-kinds, names-of-roots, names-of-states}
 use Rattle.task_reader.proofs.Stands as stands
 use Rattle.task_writer.specs.Lines.{Names, name_at, kind_names, variable_names, state_names, root_names, label_of, names_in, step_of, code_lines, state_lines, var_lines, kind_lines, root_term_of, root_line, lines_of_program}
 use Rattle.task_writer.specs.Lines as lines
@@ -258,7 +231,7 @@ head-step all kinds roots named line (what.Var more) items c s positions kind ha
     let whole : s.variables ++ more ≡ positions.variables = ap (λ z. s.variables ++ z) (sym (append-nil more) ∙ ap (λ z. more ++ z) (sym none)) ∙ variables in
     ap (λ ws. what.Var more ∷ ws)
     (c.begin (after s (what.Var more)) positions kind has is (record { stand = given.stand.2; known = given.known; ordered = given.ordered.1; roots_are = given.roots_are }) given.ordered.0 whole states)
-    ∙ ap (λ vs. vs ++ InStates kinds roots positions kind s items) (sym (one-var-line more (variables_from items) given.stand.0.1.2 none))
+    ∙ ap (λ vs. vs ++ InStates kinds roots positions kind s items) (sym (one-var-line more (variables_from items) given.stand.0.1.0.0.1 none))
 head-step all kinds roots named line w items c s positions kind has is given variables states =
     begin-step all kinds roots named line w items c s positions kind has is given tt (sym (append-nil s.variables) ∙ variables) states
 

@@ -1,29 +1,11 @@
 -- An instruction that is read is written with the names that it was read with.
-use Rattle.std.proofs.Common.{◌≡◌, ℕ, ◌+◌, add-one, Bool, true, false, ◌||◌, cond, Option, Some, None, option_map, unwrap_or, List, [], ◌∷◌, map, slice_get, refl, sym, ◌∙◌, ap}
-use Rattle.task_syntax.specs.Names.{same_bytes}
-use Rattle.task_syntax.specs.declared.program.Sort.{Sort}
+use Rattle.task_writer.proofs.Vocabulary.{◌≡◌, ℕ, ◌+◌, add-one, Bool, true, false, ◌||◌, cond, Option, Some, None, unwrap_or, List, [], ◌∷◌, map, slice_get, refl, sym, ◌∙◌, ap, same_bytes, Sort, Variable, Kind, Line, is_among, Term, Passed, Step, What, Item, has_variable, is_variable, Positions, Use, UsesFuture, term_use, passed_use, behind_uses, step_uses, Known, is_given, label_names, place_of, place_where, number_place, future_place, operand_of, argument_of, instr_of, steps_to, code_from, AllGiven, given-parts, known_for, place-where, same-name, variable-place}
+use Rattle.std.proofs.Common.{option_map}
 use Rattle.task_syntax.specs.declared.program.Sort.TheVariants as sort
-use Rattle.task_syntax.specs.declared.program.Variable.{Variable}
-use Rattle.task_syntax.specs.declared.program.Kind.{Kind}
-use Rattle.task_syntax.specs.declared.instr.Line.{Line}
-use Rattle.task_text.specs.Scan.{is_among}
-use Rattle.task_lines.specs.declared.step.Term.{Term}
 use Rattle.task_lines.specs.declared.step.Term.TheVariants as term
-use Rattle.task_lines.specs.declared.step.Passed.{Passed}
 use Rattle.task_lines.specs.declared.step.Passed.TheVariants as passed
-use Rattle.task_lines.specs.declared.step.Step.{Step}
 use Rattle.task_lines.specs.declared.step.Step.TheVariants.{Set, Math, If, Goto, Label, Cell, Rows, Spawn, All, Copy, Drop, Get, Again, Done}
-use Rattle.task_lines.specs.declared.item.What.{What}
 use Rattle.task_lines.specs.declared.item.What.TheVariants as what
-use Rattle.task_lines.specs.declared.item.Item.{Item}
-use Rattle.task_lines.specs.Scope.{has_variable, is_variable}
-use Rattle.task_reader.specs.declared.positions.Positions.{Positions}
-use Rattle.task_reader.specs.Uses.{Use, UsesFuture, term_use, passed_use, behind_uses, step_uses}
-use Rattle.task_reader.specs.Names.{Known, is_given, label_names}
-use Rattle.task_reader.specs.Program.{place_of, place_where, number_place, future_place, operand_of, argument_of, instr_of, steps_to, code_from}
-use Rattle.task_reader.proofs.Known.{AllGiven, given-parts}
-use Rattle.task_reader.proofs.FormedSteps.{known_for}
-use Rattle.task_reader.proofs.Places.{place-where, same-name, variable-place}
 use Rattle.task_writer.specs.Lines.{Names, name_at, variable_names, state_names, label_of, term_of, passed_of, step_of}
 use Rattle.task_writer.proofs.Named.{name-found}
 

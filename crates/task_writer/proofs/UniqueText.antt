@@ -1,25 +1,6 @@
 -- A program has one canonical text.
-use Rattle.std.proofs.Common.{◌≡◌, ℕ, ◌+◌, Bool, true, false, ◌&&◌, not, nat_eq, nat_le, List, [], ◌∷◌, ◌++◌, map, take, drop, Ok, cond, refl, sym, ◌∙◌, ap, subst, arith}
-use Rattle.std.specs.Prelude.{codes}
-use Rattle.std.specs.List.{flat_map, list_all}
-use Rattle.std.specs.Cmp.Lexicographic.{pointwise}
-use Rattle.std.proofs.lemmas.Bool.{leb-true, eqb-true}
-use Rattle.task_syntax.specs.Names.{is_between}
-use Rattle.task_syntax.specs.declared.program.Program.{Program}
-use Rattle.task_syntax.proofs.Bools.{both}
-use Rattle.task_text.specs.Text.{Word, Row, lines_of, without_mark, rows_from, rows_of}
-use Rattle.task_lines.specs.declared.item.What.{What}
+use Rattle.task_writer.proofs.Vocabulary.{◌≡◌, ℕ, ◌+◌, Bool, true, false, ◌&&◌, not, nat_eq, nat_le, List, [], ◌∷◌, ◌++◌, map, take, drop, Ok, cond, refl, sym, ◌∙◌, ap, subst, arith, codes, flat_map, list_all, pointwise, leb-true, eqb-true, is_between, Program, both, Word, Row, lines_of, without_mark, rows_from, rows_of, What, Item, Scope, first_scope, after, RowsSpellFrom, RowsSpell, program_in, program_of, names_known, Variable, program_in-spelled, Stand}
 use Rattle.task_lines.specs.declared.item.What.TheVariants as what
-use Rattle.task_lines.specs.declared.item.Item.{Item}
-use Rattle.task_lines.specs.declared.scope.Scope.{Scope}
-use Rattle.task_lines.specs.Scope.{first_scope, after}
-use Rattle.task_lines.specs.Grammar.{RowsSpellFrom, RowsSpell}
-use Rattle.task_reader.specs.Read.{program_in}
-use Rattle.task_reader.specs.Program.{program_of}
-use Rattle.task_reader.specs.Names.{names_known}
-use Rattle.task_syntax.specs.declared.program.Variable.{Variable}
-use Rattle.task_reader.proofs.Read.{program_in-spelled}
-use Rattle.task_reader.proofs.Stands.{Stand}
 use Rattle.task_writer.specs.Words.{line_words}
 use Rattle.task_writer.specs.Lines.{lines_of_program}
 use Rattle.task_writer.specs.Text.{header_words, text_of}

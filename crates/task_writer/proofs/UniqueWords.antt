@@ -1,29 +1,13 @@
 -- Tidy words that spell a line are the words that are written of it.
-use Rattle.std.proofs.Common.{◌≡◌, ◌≢◌, ℕ, ◌^◌, true, ◌&&◌, List, [], ◌∷◌, ◌++◌, map, length, refl, sym, ◌∙◌, ap, subst, inl, inr}
-use Rattle.std.specs.Prelude.{codes, decimal, nat_lt}
-use Rattle.std.specs.List.{list_all}
-use Rattle.std.specs.Str.Parse.{digits_value}
-use Rattle.task_syntax.specs.Names.{is_between, is_digit}
-use Rattle.task_syntax.specs.declared.program.Sort.{Sort}
+use Rattle.task_writer.proofs.Vocabulary.{◌≡◌, ◌≢◌, ℕ, ◌^◌, true, ◌&&◌, List, [], ◌∷◌, ◌++◌, map, length, refl, sym, ◌∙◌, ap, subst, append-nil, inl, inr, codes, decimal, nat_lt, list_all, digits_value, is_between, is_digit, Sort, Variable, Priority, High, Regular, Low, both, Word, begins_with_digit, Term, Passed, RootTerm, What, SpellsFuture, SpellsNumber, SpellsTerm, SpellsPassed, SpellsRootTerm, SpellsVariable, EachSpells, SpellsFutures, SpellsPriority, Spells, Part, GotoWord, AName, ANewName, ATarget, ATerm, ARelation, AFuture, KindVariables, MoreVariables, Arguments, RootArguments, Members, HeldFutures, SettledFutures, Predecessor, APriority, LastPriority, ARetry, Of, Values, Choice, Choices, part_words, entry}
 use Rattle.task_syntax.specs.declared.program.Sort.TheVariants as sort
-use Rattle.task_syntax.specs.declared.program.Variable.{Variable}
-use Rattle.task_syntax.specs.declared.value.Priority.{Priority}
-use Rattle.task_syntax.specs.declared.value.Priority.TheVariants.{High, Regular, Low}
-use Rattle.task_syntax.proofs.Bools.{both}
-use Rattle.task_text.specs.Text.{Word}
-use Rattle.task_text.specs.Scan.{begins_with_digit}
-use Rattle.task_lines.specs.declared.step.Term.{Term}
 use Rattle.task_lines.specs.declared.step.Term.TheVariants as term
-use Rattle.task_lines.specs.declared.step.Passed.{Passed}
 use Rattle.task_lines.specs.declared.step.Passed.TheVariants as passed
-use Rattle.task_lines.specs.declared.step.Step.{Step}
-use Rattle.task_lines.specs.declared.step.Step.TheVariants.{Set, Math, If, Goto, Label, Cell, Rows, Spawn, All, Copy, Drop, Get, Again, Done}
-use Rattle.task_lines.specs.declared.item.RootTerm.{RootTerm}
 use Rattle.task_lines.specs.declared.item.RootTerm.TheVariants as root_term
-use Rattle.task_lines.specs.declared.item.What.{What}
-use Rattle.task_lines.specs.declared.item.What.TheVariants as what
-use Rattle.task_lines.specs.Grammar.{SpellsFuture, SpellsNumber, SpellsTerm, SpellsPassed, SpellsRootTerm, SpellsVariable, future_word, operation_word, relation_word, retry_words, EachSpells, SpellsFutures, SpellsPriority, SpellsStep, Spells}
-use Rattle.task_writer.specs.Words.{term_word, passed_word, root_term_word, variable_word, futures_words, priority_words, step_words, line_words}
+use Rattle.task_lines.specs.Grammar.{future_word}
+use Rattle.task_lines.specs.Table.{words_of}
+use Rattle.task_writer.specs.Words.{term_word, passed_word, root_term_word, variable_word, futures_words, priority_words, line_words}
+use Rattle.task_writer.proofs.WrittenParts.{part_written, parts_written, written}
 use Rattle.task_writer.specs.Canonical.{IsTidy, AllTidy}
 use Rattle.task_writer.proofs.Writable.{decimal-value}
 
@@ -89,66 +73,34 @@ priority-unique words Low (inr e) t = let c : Low ≡ Regular = e.1 in cc
 priority-unique words Regular (inl e) t = let tidy : AllTidy (codes "regular" ∷ []) = subst AllTidy e t in absurd (tidy.0.needed refl)
 priority-unique words Regular (inr e) t = e.0
 
-step-unique : (words : List Word) (s : Step) → SpellsStep words s → AllTidy words → words ≡ step_words s
-step-unique words (Set to value) p t =
-    let tidy : AllTidy (codes "set" ∷ to ∷ p.0 ∷ []) = subst AllTidy p.1 t in
-    p.1 ∙ ap (λ v. codes "set" ∷ to ∷ v ∷ []) (term-unique p.0 value p.3 tidy.1.1.0)
-step-unique words (Math operation to left right) p t =
-    let tidy : AllTidy (operation_word operation ∷ to ∷ p.0 ∷ p.1 ∷ []) = subst AllTidy p.2 t in
-    p.2 ∙ (ap (λ v. operation_word operation ∷ to ∷ v ∷ p.1 ∷ []) (term-unique p.0 left p.4 tidy.1.1.0) ∙ ap (λ v. operation_word operation ∷ to ∷ term_word left ∷ v ∷ []) (term-unique p.1 right p.5 tidy.1.1.1.0))
-step-unique words (If relation left right target) p t =
-    let tidy : AllTidy (codes "if" ∷ p.0 ∷ relation_word relation ∷ p.1 ∷ codes "goto" ∷ target ∷ []) = subst AllTidy p.2 t in
-    p.2 ∙ (ap (λ v. codes "if" ∷ v ∷ relation_word relation ∷ p.1 ∷ codes "goto" ∷ target ∷ []) (term-unique p.0 left p.3 tidy.1.0) ∙ ap (λ v. codes "if" ∷ term_word left ∷ relation_word relation ∷ v ∷ codes "goto" ∷ target ∷ []) (term-unique p.1 right p.4 tidy.1.1.1.0))
-step-unique words (Goto target) p t = p.0
-step-unique words (Label name) p t = p.0
-step-unique words (Cell to column row) p t =
-    let tidy : AllTidy (codes "cell" ∷ to ∷ column ∷ p.0 ∷ []) = subst AllTidy p.1 t in
-    p.1 ∙ ap (λ v. codes "cell" ∷ to ∷ column ∷ v ∷ []) (term-unique p.0 row p.4 tidy.1.1.1.0)
-step-unique words (Rows to column) p t = p.0
-step-unique words (Spawn to kind arguments behind priority retry) p t =
-    let tail = p.1 ++ (p.2 ++ retry_words retry) in
-    let tidy : AllTidy (codes "spawn" ∷ future_word to ∷ kind ∷ (p.0 ++ tail)) = subst AllTidy p.3 t in
-    let a = tidy-parts p.0 tail tidy.1.1.1 in
-    let b = tidy-parts p.1 (p.2 ++ retry_words retry) a.1 in
-    let c = tidy-parts p.2 (retry_words retry) b.1 in
-    p.3 ∙ ap (λ ws. codes "spawn" ∷ future_word to ∷ kind ∷ ws)
-    (append-same p.0 tail _ _ (each-unique SpellsPassed passed_word passed-unique p.0 arguments p.6 a.0)
-    (append-same p.1 _ _ _ p.7.0 (append-same p.2 (retry_words retry) _ _ (priority-unique p.2 priority p.8 c.0) refl)))
-step-unique words (All to members priority retry) p t =
-    let tail = p.1 ++ retry_words retry in
-    let tidy : AllTidy (codes "all" ∷ future_word to ∷ (p.0 ++ tail)) = subst AllTidy p.2 t in
-    let a = tidy-parts p.0 tail tidy.1.1 in
-    let b = tidy-parts p.1 (retry_words retry) a.1 in
-    p.2 ∙ ap (λ ws. codes "all" ∷ future_word to ∷ ws)
-    (append-same p.0 tail _ _ (each-unique SpellsFuture future_word future-unique p.0 members p.5 a.0) (append-same p.1 (retry_words retry) _ _ (priority-unique p.1 priority p.6 b.0) refl))
-step-unique words (Copy to source) p t = p.0
-step-unique words (Drop future) p t = p.0
-step-unique words (Get to future) p t = p.0
-step-unique words (Again target behind priority) p t =
-    let tidy : AllTidy (codes "again" ∷ target ∷ (p.0 ++ p.1)) = subst AllTidy p.2 t in
-    let a = tidy-parts p.0 p.1 tidy.1.1 in
-    p.2 ∙ ap (λ ws. codes "again" ∷ target ∷ ws) (append-same p.0 p.1 _ _ p.4.0 (priority-unique p.1 priority p.5 a.1))
-step-unique words (Done value) p t =
-    let tidy : AllTidy (codes "done" ∷ p.0 ∷ []) = subst AllTidy p.1 t in
-    p.1 ∙ ap (λ v. codes "done" ∷ v ∷ []) (term-unique p.0 value p.2 tidy.1.0)
+part-unique : (part : Part) (v : Of part) (c : Choice part v) → AllTidy (part_words part v c) → part_words part v c ≡ part_written part v
+part-unique GotoWord v c t = refl
+part-unique AName name c t = refl
+part-unique (ANewName named) name c t = refl
+part-unique ATarget name c t = refl
+part-unique ATerm term c t = ap (λ w. w ∷ []) (term-unique c.0 term c.1 t.0)
+part-unique ARelation relation c t = refl
+part-unique AFuture name c t = refl
+part-unique KindVariables variables c t = each-unique SpellsVariable variable_word variable-unique c.0 variables c.1 t
+part-unique MoreVariables variables c t = each-unique SpellsVariable variable_word variable-unique c.0 variables c.2 t
+part-unique Arguments arguments c t = each-unique SpellsPassed passed_word passed-unique c.0 arguments c.1 t
+part-unique RootArguments arguments c t = each-unique SpellsRootTerm root_term_word root-term-unique c.0 arguments c.1 t
+part-unique Members members c t = each-unique SpellsFuture future_word future-unique c.0 members c.2 t
+part-unique HeldFutures names c t = futures-unique (codes "holds") c.0 names c.1 t
+part-unique SettledFutures names c t = futures-unique (codes "settled") c.0 names c.1 t
+part-unique Predecessor behind c t = c.1.0
+part-unique APriority priority c t = priority-unique c.0 priority c.1 t
+part-unique LastPriority priority c t = priority-unique c.0 priority c.1 t
+part-unique ARetry retry c t = refl
+
+parts-unique : (ps : List Part) (vs : Values ps) (c : Choices ps vs) → AllTidy (words_of ps vs c []) → words_of ps vs c [] ≡ parts_written ps vs
+parts-unique [] vs c t = refl
+parts-unique (part ∷ []) vs c t = append-nil (part_words part vs.0 c.0) ∙ part-unique part vs.0 c.0 (tidy-parts (part_words part vs.0 c.0) [] t).0
+parts-unique (part ∷ next ∷ ps) vs c t =
+    let tidy = tidy-parts (part_words part vs.0 c.0) (words_of (next ∷ ps) vs.1 c.1 []) t in
+    append-same (part_words part vs.0 c.0) (words_of (next ∷ ps) vs.1 c.1 []) _ _ (part-unique part vs.0 c.0 tidy.0) (parts-unique (next ∷ ps) vs.1 c.1 tidy.1)
 
 pub line-unique : (words : List Word) (w : What) → Spells words w → AllTidy words → words ≡ line_words w
-line-unique words (what.Kind name arguments) p t =
-    let tidy : AllTidy (codes "kind" ∷ name ∷ p.0) = subst AllTidy p.1 t in
-    p.1 ∙ ap (λ ws. codes "kind" ∷ name ∷ ws) (each-unique SpellsVariable variable_word variable-unique p.0 arguments p.3 tidy.1.1)
-line-unique words (what.Var variables) p t =
-    let tidy : AllTidy (codes "var" ∷ p.0) = subst AllTidy p.1 t in
-    p.1 ∙ ap (λ ws. codes "var" ∷ ws) (each-unique SpellsVariable variable_word variable-unique p.0 variables p.3 tidy.1)
-line-unique words (what.State name holds settled) p t =
-    let tidy : AllTidy (codes "state" ∷ name ∷ (p.0 ++ p.1)) = subst AllTidy p.2 t in
-    let a = tidy-parts p.0 p.1 tidy.1.1 in
-    p.2 ∙ ap (λ ws. codes "state" ∷ name ∷ ws) (append-same p.0 p.1 _ _ (futures-unique (codes "holds") p.0 holds p.4 a.0) (futures-unique (codes "settled") p.1 settled p.5 a.1))
-line-unique words (what.Step step) p t = step-unique words step p t
-line-unique words what.End p t = p
-line-unique words (what.Root name kind arguments behind priority) p t =
-    let tail = p.1 ++ p.2 in
-    let tidy : AllTidy (codes "root" ∷ name ∷ kind ∷ (p.0 ++ tail)) = subst AllTidy p.3 t in
-    let a = tidy-parts p.0 tail tidy.1.1.1 in
-    let b = tidy-parts p.1 p.2 a.1 in
-    p.3 ∙ ap (λ ws. codes "root" ∷ name ∷ kind ∷ ws)
-    (append-same p.0 tail _ _ (each-unique SpellsRootTerm root_term_word root-term-unique p.0 arguments p.6 a.0) (append-same p.1 p.2 _ _ p.7.0 (priority-unique p.2 priority p.8 b.1)))
+line-unique words w p t =
+    let tidy : AllTidy ((entry w).word ∷ words_of (entry w).parts (entry w).values p.0 []) = subst AllTidy p.1 t in
+    p.1 ∙ (ap (λ ws. (entry w).word ∷ ws) (parts-unique (entry w).parts (entry w).values p.0 tidy.1) ∙ sym (written w))

@@ -1,31 +1,13 @@
 -- Lines whose names are names and whose numbers fit: their words spell them.
-use Rattle.std.proofs.Common.{◌≡◌, ◌≢◌, ℕ, ◌<◌, ◌≤◌, ◌^◌, Bool, true, ◌&&◌, nat_le, nat_lt, Option, List, [], ◌∷◌, map, length, refl, ◌∙◌, ap, inl, inr, arith}
-use Rattle.std.specs.Prelude.{codes, decimal, IfSome}
-use Rattle.std.specs.List.{list_all}
-use Rattle.std.specs.Str.Parse.{digits_value}
-use Rattle.std.proofs.lemmas.Bool.{leb-true, le-leb, lt-ltb}
-use Rattle.std.proofs.lemmas.Fmt.{digits_decimal, digits_value-decimal, length-decimal-le, decimal_nonempty}
-use Rattle.std.proofs.lemmas.Str.Parse.{IsDigitsTest, IsNumeralModel, numerals_by_value}
-use Rattle.task_syntax.specs.Names.{is_digit, IsName}
-use Rattle.task_syntax.specs.declared.program.Sort.{Sort}
+use Rattle.task_writer.proofs.Vocabulary.{◌≡◌, ◌≢◌, ℕ, ◌<◌, ◌≤◌, ◌^◌, Bool, true, ◌&&◌, nat_le, nat_lt, Option, List, [], ◌∷◌, ◌++◌, map, length, refl, sym, append-nil, ◌∙◌, ap, inl, inr, arith, codes, decimal, IfSome, list_all, digits_value, leb-true, le-leb, lt-ltb, digits_decimal, digits_value-decimal, length-decimal-le, decimal_nonempty, IsDigitsTest, IsNumeralModel, numerals_by_value, is_digit, IsName, Sort, Variable, Priority, High, Regular, Low, both, Word, Term, Passed, RootTerm, What, SpellsFuture, SpellsNumber, SpellsTerm, SpellsPassed, SpellsRootTerm, SpellsVariable, EachSpells, SpellsFutures, SpellsBehind, SpellsPriority, Spells, Part, GotoWord, AName, ANewName, ATarget, ATerm, ARelation, AFuture, KindVariables, MoreVariables, Arguments, RootArguments, Members, HeldFutures, SettledFutures, Predecessor, APriority, LastPriority, ARetry, Of, Values, Choice, Choices, part_words, entry}
 use Rattle.task_syntax.specs.declared.program.Sort.TheVariants as sort
-use Rattle.task_syntax.specs.declared.program.Variable.{Variable}
-use Rattle.task_syntax.specs.declared.value.Priority.{Priority}
-use Rattle.task_syntax.specs.declared.value.Priority.TheVariants.{High, Regular, Low}
-use Rattle.task_syntax.proofs.Bools.{both}
-use Rattle.task_text.specs.Text.{Word}
-use Rattle.task_lines.specs.declared.step.Term.{Term}
 use Rattle.task_lines.specs.declared.step.Term.TheVariants as term
-use Rattle.task_lines.specs.declared.step.Passed.{Passed}
 use Rattle.task_lines.specs.declared.step.Passed.TheVariants as passed
-use Rattle.task_lines.specs.declared.step.Step.{Step}
-use Rattle.task_lines.specs.declared.step.Step.TheVariants.{Set, Math, If, Goto, Label, Cell, Rows, Spawn, All, Copy, Drop, Get, Again, Done}
-use Rattle.task_lines.specs.declared.item.RootTerm.{RootTerm}
 use Rattle.task_lines.specs.declared.item.RootTerm.TheVariants as root_term
-use Rattle.task_lines.specs.declared.item.What.{What}
-use Rattle.task_lines.specs.declared.item.What.TheVariants as what
-use Rattle.task_lines.specs.Grammar.{SpellsFuture, SpellsNumber, SpellsTerm, SpellsPassed, SpellsRootTerm, SpellsVariable, future_word, behind_words, EachSpells, SpellsFutures, SpellsBehind, SpellsPriority, SpellsStep, Spells}
-use Rattle.task_writer.specs.Words.{term_word, passed_word, root_term_word, variable_word, futures_words, priority_words, step_words, line_words}
+use Rattle.task_lines.specs.Grammar.{future_word, behind_words}
+use Rattle.task_lines.specs.Table.{words_of}
+use Rattle.task_writer.specs.Words.{term_word, passed_word, root_term_word, variable_word, futures_words, priority_words, line_words}
+use Rattle.task_writer.proofs.WrittenParts.{part_written, parts_written, written}
 
 -- ---- what may be written
 
@@ -49,29 +31,28 @@ IsWritableRootTerm (root_term.Root name) = IsName name
 abbrev pub IsWritableVariable : Variable → Type 0
 IsWritableVariable v = IsName v.name
 
-abbrev pub IsWritableStep : Step → Type 0
-IsWritableStep (Set to value) = IsName to × IsWritableTerm value
-IsWritableStep (Math operation to left right) = IsName to × IsWritableTerm left × IsWritableTerm right
-IsWritableStep (If relation left right target) = IsWritableTerm left × IsWritableTerm right × IsName target
-IsWritableStep (Goto target) = IsName target
-IsWritableStep (Label name) = IsName name
-IsWritableStep (Cell to column row) = IsName to × IsName column × IsWritableTerm row
-IsWritableStep (Rows to column) = IsName to × IsName column
-IsWritableStep (Spawn to kind arguments behind priority retry) = IsName to × IsName kind × AllOf IsWritablePassed arguments × IfSome behind IsName
-IsWritableStep (All to members priority retry) = IsName to × (members ≢ []) × AllOf IsName members
-IsWritableStep (Copy to source) = IsName to × IsName source
-IsWritableStep (Drop future) = IsName future
-IsWritableStep (Get to future) = IsName to × IsName future
-IsWritableStep (Again target behind priority) = IsName target × IfSome behind IsName
-IsWritableStep (Done value) = IsWritableTerm value
+abbrev pub IsWritablePart : (part : Part) → Of part → Type 0
+IsWritablePart AName name = IsName name
+IsWritablePart (ANewName named) name = IsName name
+IsWritablePart ATarget name = IsName name
+IsWritablePart ATerm t = IsWritableTerm t
+IsWritablePart AFuture name = IsName name
+IsWritablePart KindVariables variables = AllOf IsWritableVariable variables
+IsWritablePart MoreVariables variables = (variables ≢ []) × AllOf IsWritableVariable variables
+IsWritablePart Arguments arguments = AllOf IsWritablePassed arguments
+IsWritablePart RootArguments arguments = AllOf IsWritableRootTerm arguments
+IsWritablePart Members members = (members ≢ []) × AllOf IsName members
+IsWritablePart HeldFutures names = AllOf IsName names
+IsWritablePart SettledFutures names = AllOf IsName names
+IsWritablePart Predecessor behind = IfSome behind IsName
+IsWritablePart part v = Unit {0}
+
+abbrev pub AreWritable : (ps : List Part) → Values ps → Type 0
+AreWritable [] vs = Unit {0}
+AreWritable (part ∷ ps) vs = IsWritablePart part vs.0 × AreWritable ps vs.1
 
 abbrev pub IsWritable : What → Type 0
-IsWritable (what.Kind name arguments) = IsName name × AllOf IsWritableVariable arguments
-IsWritable (what.Var variables) = (variables ≢ []) × AllOf IsWritableVariable variables
-IsWritable (what.State name holds settled) = IsName name × AllOf IsName holds × AllOf IsName settled
-IsWritable (what.Step step) = IsWritableStep step
-IsWritable what.End = Unit {0}
-IsWritable (what.Root name kind arguments behind priority) = IsName name × IsName kind × AllOf IsWritableRootTerm arguments × IfSome behind IsName
+IsWritable w = AreWritable (entry w).parts (entry w).values
 
 -- ---- numbers
 
@@ -155,30 +136,34 @@ priority-spelled Low = inl refl
 
 -- ---- lines
 
-step-spelled : (s : Step) → IsWritableStep s → SpellsStep (step_words s) s
-step-spelled (Set to value) h = (term_word value, refl, h.0, term-spelled value h.1)
-step-spelled (Math operation to left right) h = (term_word left, term_word right, refl, h.0, term-spelled left h.1, term-spelled right h.2)
-step-spelled (If relation left right target) h = (term_word left, term_word right, refl, term-spelled left h.0, term-spelled right h.1, h.2)
-step-spelled (Goto target) h = (refl, h)
-step-spelled (Label name) h = (refl, h)
-step-spelled (Cell to column row) h = (term_word row, refl, h.0, h.1, term-spelled row h.2)
-step-spelled (Rows to column) h = (refl, h.0, h.1)
-step-spelled (Spawn to kind arguments behind priority retry) h =
-    (map passed_word arguments, behind_words behind, priority_words priority, refl, h.0, h.1, each-spelled SpellsPassed IsWritablePassed passed_word passed-spelled arguments h.2, behind-spelled behind h.3, priority-spelled priority)
-step-spelled (All to members priority retry) h =
-    (map future_word members, priority_words priority, refl, h.0, h.1, each-spelled SpellsFuture IsName future_word future-spelled members h.2, priority-spelled priority)
-step-spelled (Copy to source) h = (refl, h.0, h.1)
-step-spelled (Drop future) h = (refl, h)
-step-spelled (Get to future) h = (refl, h.0, h.1)
-step-spelled (Again target behind priority) h = (behind_words behind, priority_words priority, refl, h.0, behind-spelled behind h.1, priority-spelled priority)
-step-spelled (Done value) h = (term_word value, refl, term-spelled value h)
+-- a part is spelled by the words that are written of it
+part-spelled : (part : Part) (v : Of part) → IsWritablePart part v → (c : Choice part v) × (part_written part v ≡ part_words part v c)
+part-spelled GotoWord v h = (tt, refl)
+part-spelled AName name h = (h, refl)
+part-spelled (ANewName named) name h = (h, refl)
+part-spelled ATarget name h = (h, refl)
+part-spelled ATerm t h = ((term_word t, term-spelled t h), refl)
+part-spelled ARelation relation h = (tt, refl)
+part-spelled AFuture name h = (h, refl)
+part-spelled KindVariables variables h = ((map variable_word variables, each-spelled SpellsVariable IsWritableVariable variable_word variable-spelled variables h), refl)
+part-spelled MoreVariables variables h = ((map variable_word variables, h.0, each-spelled SpellsVariable IsWritableVariable variable_word variable-spelled variables h.1), refl)
+part-spelled Arguments arguments h = ((map passed_word arguments, each-spelled SpellsPassed IsWritablePassed passed_word passed-spelled arguments h), refl)
+part-spelled RootArguments arguments h = ((map root_term_word arguments, each-spelled SpellsRootTerm IsWritableRootTerm root_term_word root-term-spelled arguments h), refl)
+part-spelled Members members h = ((map future_word members, h.0, each-spelled SpellsFuture IsName future_word future-spelled members h.1), refl)
+part-spelled HeldFutures names h = ((futures_words (codes "holds") names, futures-spelled (codes "holds") names h), refl)
+part-spelled SettledFutures names h = ((futures_words (codes "settled") names, futures-spelled (codes "settled") names h), refl)
+part-spelled Predecessor behind h = ((behind_words behind, behind-spelled behind h), refl)
+part-spelled APriority priority h = ((priority_words priority, priority-spelled priority), refl)
+part-spelled LastPriority priority h = ((priority_words priority, priority-spelled priority), refl)
+part-spelled ARetry retry h = (tt, refl)
+
+parts-spelled : (ps : List Part) (vs : Values ps) → AreWritable ps vs → (c : Choices ps vs) × (parts_written ps vs ≡ words_of ps vs c [])
+parts-spelled [] vs h = (tt, refl)
+parts-spelled (part ∷ []) vs h = let one = part-spelled part vs.0 h.0 in ((one.0, tt), one.1 ∙ sym (append-nil (part_words part vs.0 one.0)))
+parts-spelled (part ∷ next ∷ ps) vs h =
+    let one = part-spelled part vs.0 h.0 in
+    let more = parts-spelled (next ∷ ps) vs.1 h.1 in
+    ((one.0, more.0), ap (λ ws. ws ++ parts_written (next ∷ ps) vs.1) one.1 ∙ ap (λ ws. part_words part vs.0 one.0 ++ ws) more.1)
 
 pub line-spelled : (w : What) → IsWritable w → Spells (line_words w) w
-line-spelled (what.Kind name arguments) h = (map variable_word arguments, refl, h.0, each-spelled SpellsVariable IsWritableVariable variable_word variable-spelled arguments h.1)
-line-spelled (what.Var variables) h = (map variable_word variables, refl, h.0, each-spelled SpellsVariable IsWritableVariable variable_word variable-spelled variables h.1)
-line-spelled (what.State name holds settled) h =
-    (futures_words (codes "holds") holds, futures_words (codes "settled") settled, refl, h.0, futures-spelled (codes "holds") holds h.1, futures-spelled (codes "settled") settled h.2)
-line-spelled (what.Step step) h = step-spelled step h
-line-spelled what.End h = refl
-line-spelled (what.Root name kind arguments behind priority) h =
-    (map root_term_word arguments, behind_words behind, priority_words priority, refl, h.0, h.1, each-spelled SpellsRootTerm IsWritableRootTerm root_term_word root-term-spelled arguments h.2, behind-spelled behind h.3, priority-spelled priority)
+line-spelled w h = let p = parts-spelled (entry w).parts (entry w).values h in (p.0, written w ∙ ap (λ ws. (entry w).word ∷ ws) p.1)

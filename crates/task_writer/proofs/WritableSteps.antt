@@ -1,28 +1,16 @@
 -- Every instruction of a well-formed program may be written.
-use Rattle.std.proofs.Common.{◌≡◌, ◌≢◌, ℕ, zero, suc, ◌+◌, ◌<◌, Option, Some, None, option_map, List, [], ◌∷◌, map, drop, length, slice_get, refl, sym, ◌∙◌, ap, subst, arith}
-use Rattle.std.proofs.lemmas.List.{length-map}
-use Rattle.std.specs.Prelude.{IfSome}
-use Rattle.task_syntax.specs.Names.{IsName}
-use Rattle.task_syntax.specs.Places.{EachAt, Each, IsFutureAt}
-use Rattle.task_syntax.specs.Form.{IsFormedOperand, IsFormedArgument, IsFormedInstr, IsFormedState, IsFormedKind, IsLabelAhead}
-use Rattle.task_syntax.specs.declared.program.Sort.{Sort}
+use Rattle.task_writer.proofs.Vocabulary.{◌≡◌, ◌≢◌, ℕ, zero, suc, ◌+◌, ◌<◌, Option, Some, None, List, [], ◌∷◌, map, drop, length, slice_get, refl, sym, ◌∙◌, ap, subst, arith, length-map, IfSome, IsName, EachAt, Each, IsNumberAt, IsFutureAt, IsFormedOperand, IsFormedArgument, IsFormedInstr, IsFormedState, IsFormedKind, IsLabelAhead, Sort, Variable, State, Kind, Program, Operand, Argument, Instr, get-map}
+use Rattle.std.proofs.Common.{option_map}
 use Rattle.task_syntax.specs.declared.program.Sort.TheVariants as sort
-use Rattle.task_syntax.specs.declared.program.Variable.{Variable}
-use Rattle.task_syntax.specs.declared.program.State.{State}
-use Rattle.task_syntax.specs.declared.program.Kind.{Kind}
-use Rattle.task_syntax.specs.declared.program.Program.{Program}
-use Rattle.task_syntax.specs.declared.instr.Operand.{Operand}
 use Rattle.task_syntax.specs.declared.instr.Operand.TheVariants as operand
-use Rattle.task_syntax.specs.declared.instr.Argument.{Argument}
 use Rattle.task_syntax.specs.declared.instr.Argument.TheVariants as argument
-use Rattle.task_syntax.specs.declared.instr.Instr.{Instr}
 use Rattle.task_syntax.specs.declared.instr.Instr.TheVariants.{Set, Math, If, Goto, Label, Cell, Rows, Spawn, All, Copy, Drop, Get, Again, Done}
-use Rattle.task_syntax.proofs.Differ.{get-map}
+use Rattle.task_lines.specs.declared.item.What.TheVariants as what
 use Rattle.task_writer.specs.Lines.{name_at, kind_names, variable_names, label_names, names_in, term_of, passed_of, step_of}
 use Rattle.task_writer.proofs.Named.{name-found}
 use Rattle.task_writer.proofs.ReadPlaces.{named-at, stands-at}
 use Rattle.task_writer.proofs.ReadCode.{label-at}
-use Rattle.task_writer.proofs.Writable.{AllOf, IsWritableTerm, IsWritablePassed, IsWritableStep}
+use Rattle.task_writer.proofs.Writable.{AllOf, IsWritableTerm, IsWritablePassed, IsWritable}
 
 -- what stands at a position of named things has a name
 pub position-named : {X : Type 0} (name : X → List ℕ) (xs : List X) → Each xs (λ x. IsName (name x)) → (at : ℕ) → at < length xs → IsName (name_at (map name xs) at)
@@ -89,33 +77,51 @@ map-begun f [] h e = omega (arith, h)
 map-begun f (x ∷ xs) h e = cc
 
 pub step-writable : (p : Program) (kind : Kind) (state : State) → AreNamed p kind state → (at : ℕ) (instr : Instr) → IsFormedInstr p kind state at instr
-    → IsWritableStep (step_of (names_in (kind_names p.kinds) kind state) instr)
+    → IsWritable (what.Step (step_of (names_in (kind_names p.kinds) kind state) instr))
 unfolding step_of
-step-writable p kind state n at (Set to value) f = (variable-named kind n.variables sort.Number to f.0, term-writable kind n.variables value f.1)
-step-writable p kind state n at (Math op to left right) f =
-    (variable-named kind n.variables sort.Number to f.0, term-writable kind n.variables left f.1, term-writable kind n.variables right f.2)
-step-writable p kind state n at (If relation left right target) f =
-    (term-writable kind n.variables left f.0, term-writable kind n.variables right f.1, n.labels at target f.2)
-step-writable p kind state n at (Goto target) f = n.labels at target f
-step-writable p kind state n at (Label name) f = f
-step-writable p kind state n at (Cell to column row) f = (variable-named kind n.variables sort.Number to f.0, f.1, term-writable kind n.variables row f.2)
-step-writable p kind state n at (Rows to column) f = (variable-named kind n.variables sort.Number to f.0, f.1)
-step-writable p kind state n at (Spawn to callee arguments behind priority retry) f = (
-  variable-named kind n.variables sort.Future to f.0,
-  position-named (λ (k : Kind). k.name) p.kinds n.kinds callee f.1,
-  all-writable (IsFormedArgument kind) IsWritablePassed (passed_of (variable_names kind.variables)) (passed-writable kind n.variables) arguments f.3,
-  some-writable (IsFutureAt kind) (name_at (variable_names kind.variables)) (variable-named kind n.variables sort.Future) behind f.4,
-)
-step-writable p kind state n at (All to members priority retry) f = (
-  variable-named kind n.variables sort.Future to f.0,
-  map-begun (name_at (variable_names kind.variables)) members f.1,
-  all-writable (IsFutureAt kind) IsName (name_at (variable_names kind.variables)) (variable-named kind n.variables sort.Future) members f.3,
-)
-step-writable p kind state n at (Copy to source) f = (variable-named kind n.variables sort.Future to f.0, variable-named kind n.variables sort.Future source f.1)
-step-writable p kind state n at (Drop future) f = variable-named kind n.variables sort.Future future f
-step-writable p kind state n at (Get to future) f = (variable-named kind n.variables sort.Number to f.0, variable-named kind n.variables sort.Future future f.1)
-step-writable p kind state n at (Again target behind priority) f = (
-  position-named (λ (s : State). s.name) kind.states n.states target f.0,
-  some-writable (IsFutureAt kind) (name_at (variable_names kind.variables)) (variable-named kind n.variables sort.Future) behind f.1,
-)
-step-writable p kind state n at (Done value) f = term-writable kind n.variables value f
+step-writable p kind state n at instr f = by instr f where
+  number : (at : ℕ) → IsNumberAt kind at → IsName (name_at (variable_names kind.variables) at)
+  number at h = variable-named kind n.variables sort.Number at h
+
+  future : (at : ℕ) → IsFutureAt kind at → IsName (name_at (variable_names kind.variables) at)
+  future at h = variable-named kind n.variables sort.Future at h
+
+  term : (a : Operand) → IsFormedOperand kind a → IsWritableTerm (term_of (variable_names kind.variables) a)
+  term a h = term-writable kind n.variables a h
+
+  before : (behind : Option ℕ) → IfSome behind (IsFutureAt kind) → IfSome (option_map (name_at (variable_names kind.variables)) behind) IsName
+  before behind h = some-writable (IsFutureAt kind) (name_at (variable_names kind.variables)) future behind h
+
+  by : (instr : Instr) → IsFormedInstr p kind state at instr → IsWritable (what.Step (step_of (names_in (kind_names p.kinds) kind state) instr))
+  by (Set to value) f = (number to f.0, (term value f.1, tt))
+  by (Math op to left right) f = (number to f.0, (term left f.1, (term right f.2, tt)))
+  by (If relation left right target) f = (term left f.0, (tt, (term right f.1, (tt, (n.labels at target f.2, tt)))))
+  by (Goto target) f = (n.labels at target f, tt)
+  by (Label name) f = (f, tt)
+  by (Cell to column row) f = (number to f.0, (f.1, (term row f.2, tt)))
+  by (Rows to column) f = (number to f.0, (f.1, tt))
+  by (Spawn to callee arguments behind priority retry) f = (
+    future to f.0,
+    (
+      position-named (λ (k : Kind). k.name) p.kinds n.kinds callee f.1,
+      (
+        all-writable (IsFormedArgument kind) IsWritablePassed (passed_of (variable_names kind.variables)) (passed-writable kind n.variables) arguments f.3,
+        (before behind f.4, (tt, (tt, tt))),
+      ),
+    ),
+  )
+  by (All to members priority retry) f = (
+    future to f.0,
+    (
+      (
+        map-begun (name_at (variable_names kind.variables)) members f.1,
+        all-writable (IsFutureAt kind) IsName (name_at (variable_names kind.variables)) future members f.3,
+      ),
+      (tt, (tt, tt)),
+    ),
+  )
+  by (Copy to source) f = (future to f.0, (future source f.1, tt))
+  by (Drop released) f = (future released f, tt)
+  by (Get to settled) f = (number to f.0, (future settled f.1, tt))
+  by (Again target behind priority) f = (position-named (λ (s : State). s.name) kind.states n.states target f.0, (before behind f.1, (tt, tt)))
+  by (Done value) f = (term value f, tt)

@@ -1,8 +1,5 @@
 -- What holds of the text that is written.
-use Rattle.std.proofs.Common.{◌≡◌, ℕ, List, Ok, sym, ◌∙◌, ap, subst}
-use Rattle.task_syntax.specs.Form.{IsWellFormed}
-use Rattle.task_syntax.specs.declared.program.Program.{Program}
-use Rattle.task_reader.specs.Read.{program_in}
+use Rattle.task_writer.proofs.Vocabulary.{◌≡◌, ℕ, List, Ok, sym, ◌∙◌, ap, subst, IsWellFormed, Program, program_in}
 use Rattle.task_writer.specs.Text.{text_of}
 use Rattle.task_writer.specs.Numbering.{renumbered}
 use Rattle.task_writer.specs.Canonical.{IsCanonical}

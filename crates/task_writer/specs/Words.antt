@@ -15,7 +15,7 @@ use Rattle.task_lines.specs.declared.item.RootTerm.{RootTerm}
 use Rattle.task_lines.specs.declared.item.RootTerm.TheVariants as root_term
 use Rattle.task_lines.specs.declared.item.What.{What}
 use Rattle.task_lines.specs.declared.item.What.TheVariants as what
-use Rattle.task_lines.specs.Grammar.{future_word, operation_word, relation_word, behind_words, retry_words}
+use Rattle.task_lines.specs.Spelling.{future_word, operation_word, relation_word, behind_words, retry_words}
 
 abbrev pub term_word : Term → Word
 term_word (term.Literal n) = decimal n

@@ -1,5 +1,4 @@
-use Rattle.std.proofs.Common.{◌≡◌, length}
-use Rattle.task_text.specs.Scan.{each, is_future}
+use Rattle.task_lines.proofs.Vocabulary.{◌≡◌, length, each, is_future}
 use Rattle.task_lines.specs.Line.{read_other_future}
 use Rattle.task_lines.proofs.list.further_futures.Given as goal
 

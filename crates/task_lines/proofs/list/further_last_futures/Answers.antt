@@ -1,8 +1,5 @@
-use Rattle.std.proofs.Common.{◌≡◌, true, false, refl, ◌∙◌}
-use Rattle.std.proofs.lemmas.Result.{err_from_is_err_and}
-use Rattle.task_text.specs.Scan.{seen, is_present}
+use Rattle.task_lines.proofs.Vocabulary.{◌≡◌, true, false, refl, ◌∙◌, err_from_is_err_and, seen, is_present, each-more, each-fails, each-ends, moved-shorter}
 use Rattle.task_lines.specs.Line.{read_other_future}
-use Rattle.task_text.proofs.Lists.{each-more, each-fails, each-ends, moved-shorter}
 use Rattle.task_lines.proofs.list.further_last_futures.Goals as goal
 
 pub returns-in_err-read_other_future : goal.returns-in_err-read_other_future

@@ -1,8 +1,5 @@
-use Rattle.std.proofs.Common.{◌≡◌, true, false, refl, ◌∙◌}
-use Rattle.std.proofs.lemmas.Result.{err_from_is_err_and}
-use Rattle.task_text.specs.Scan.{seen, is_future}
-use Rattle.task_lines.specs.Steps.{read_member}
-use Rattle.task_text.proofs.Lists.{each-more, each-fails, each-ends, moved-shorter}
+use Rattle.task_lines.proofs.Vocabulary.{◌≡◌, true, false, refl, ◌∙◌, err_from_is_err_and, seen, is_future, each-more, each-fails, each-ends, moved-shorter}
+use Rattle.task_lines.specs.Line.{read_member}
 use Rattle.task_lines.proofs.list.further_members.Goals as goal
 
 pub returns-in_err-read_member : goal.returns-in_err-read_member

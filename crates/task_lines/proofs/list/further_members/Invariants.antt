@@ -1,6 +1,5 @@
-use Rattle.std.proofs.Common.{◌≡◌, length}
-use Rattle.task_text.specs.Scan.{each, is_future}
-use Rattle.task_lines.specs.Steps.{read_member}
+use Rattle.task_lines.proofs.Vocabulary.{◌≡◌, length, each, is_future}
+use Rattle.task_lines.specs.Line.{read_member}
 use Rattle.task_lines.proofs.list.further_members.Given as goal
 
 abbrev pub invariant-words : goal.invariant-words

@@ -1,5 +1,4 @@
-use Rattle.std.proofs.Common.{◌≡◌, ◌++◌, length}
-use Rattle.task_text.specs.Scan.{each, is_present}
+use Rattle.task_lines.proofs.Vocabulary.{◌≡◌, ◌++◌, length, each, is_present}
 use Rattle.task_lines.specs.Line.{read_variable}
 use Rattle.task_lines.proofs.list.further_variables.Given as goal
 

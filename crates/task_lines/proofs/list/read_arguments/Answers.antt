@@ -1,8 +1,5 @@
-use Rattle.std.proofs.Common.{◌≡◌, true, false, refl, ◌∙◌}
-use Rattle.std.proofs.lemmas.Result.{err_from_is_err_and}
-use Rattle.task_text.specs.Scan.{seen}
-use Rattle.task_lines.specs.Steps.{is_argument, read_argument}
-use Rattle.task_text.proofs.Lists.{each-more, each-fails, each-ends, moved-shorter}
+use Rattle.task_lines.proofs.Vocabulary.{◌≡◌, true, false, refl, ◌∙◌, err_from_is_err_and, seen, each-more, each-fails, each-ends, moved-shorter}
+use Rattle.task_lines.specs.Line.{is_argument, read_argument}
 use Rattle.task_lines.proofs.list.read_arguments.Goals as goal
 
 pub returns-in_err-read_argument : goal.returns-in_err-read_argument

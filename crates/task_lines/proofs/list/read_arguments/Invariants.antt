@@ -1,6 +1,5 @@
-use Rattle.std.proofs.Common.{◌≡◌, [], length}
-use Rattle.task_text.specs.Scan.{each}
-use Rattle.task_lines.specs.Steps.{is_argument, read_argument}
+use Rattle.task_lines.proofs.Vocabulary.{◌≡◌, [], length, each}
+use Rattle.task_lines.specs.Line.{is_argument, read_argument}
 use Rattle.task_lines.proofs.list.read_arguments.Given as goal
 
 abbrev pub invariant-words : goal.invariant-words

@@ -1,5 +1,4 @@
-use Rattle.std.proofs.Common.{◌≡◌, [], length}
-use Rattle.task_text.specs.Scan.{each}
+use Rattle.task_lines.proofs.Vocabulary.{◌≡◌, [], length, each}
 use Rattle.task_lines.specs.Line.{is_root_argument, read_root_argument}
 use Rattle.task_lines.proofs.list.read_root_arguments.Given as goal
 

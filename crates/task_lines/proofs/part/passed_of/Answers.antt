@@ -1,5 +1,4 @@
-use Rattle.std.proofs.Common.{sym, ◌∙◌}
-use Rattle.task_text.specs.Scan.{is_operand, is_future}
+use Rattle.task_lines.proofs.Vocabulary.{sym, ◌∙◌, is_operand, is_future}
 use Rattle.task_lines.proofs.Parts.{left_of}
 use Rattle.task_lines.proofs.part.passed_of.Goals as goal
 

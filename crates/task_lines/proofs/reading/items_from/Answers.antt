@@ -1,5 +1,4 @@
-use Rattle.std.proofs.Common.{sym, ◌∙◌, arith}
-use Rattle.std.proofs.lemmas.Result.{err_from_is_err_and}
+use Rattle.task_lines.proofs.Vocabulary.{sym, ◌∙◌, arith, err_from_is_err_and}
 use Rattle.task_lines.proofs.Items.{one_item, row_fails_or, rows_end, rows_stop, steps_counted, one_less}
 use Rattle.task_lines.proofs.reading.items_from.Goals as goal
 
@@ -20,10 +19,12 @@ rows-preserved c =
       steps = rw c.in_ok-next_item.ensures.scope (omega (arith, less, count, c.rows.invariant.steps));
     })
 
-pub returns-in-Outside : goal.returns-in-Outside
-returns-in-Outside c =
-    c.rows.invariant.read ∙ rows_end c.args.last c.rows.scope c.rows.rows c.rows.items (sym c.in_default.ensures.row) c.in-Outside.is
+pub returns-in_err-must_be_closed : goal.returns-in_err-must_be_closed
+returns-in_err-must_be_closed c =
+    let p = err_from_is_err_and c.from_residual-in_err-must_be_closed.result c.from_residual-in_err-must_be_closed.ensures.1 in
+    rw (p.1, p.2, c.rows.invariant.read, c.in_err-must_be_closed.ensures.1)
+    (rows_stop c.args.last c.rows.scope c.rows.rows c.rows.items (sym c.in_default.ensures.row) c.in_err-must_be_closed.ensures.0)
 
 pub returns : goal.returns
 returns c =
-    c.rows.invariant.read ∙ rows_stop c.args.last c.rows.scope c.rows.rows c.rows.items (sym c.in_default.ensures.row) c.in_default-place.not-Outside
+    c.rows.invariant.read ∙ rows_end c.args.last c.rows.scope c.rows.rows c.rows.items (sym c.in_default.ensures.row) c.in_ok-must_be_closed.ensures

@@ -1,5 +1,4 @@
-use Rattle.std.proofs.Common.{◌≡◌, ◌≤◌, drop}
-use Rattle.task_lines.specs.Scope.{first_scope}
+use Rattle.task_reader.proofs.Vocabulary.{◌≡◌, ◌≤◌, drop, first_scope}
 use Rattle.task_reader.specs.Names.{names_known}
 use Rattle.task_reader.specs.Fits.{EachIsShort}
 use Rattle.task_reader.proofs.names.names_known.Given as goal

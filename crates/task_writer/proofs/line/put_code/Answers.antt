@@ -1,5 +1,4 @@
-use Rattle.task_syntax.specs.declared.instr.Line.{Line}
-use Rattle.task_lines.specs.declared.item.What.{What}
+use Rattle.task_writer.proofs.Vocabulary.{Line, What}
 use Rattle.task_lines.specs.declared.item.What.TheVariants as what
 use Rattle.task_writer.specs.Lines.{kind_names, names_in, step_of}
 use Rattle.task_writer.proofs.PuttingLines.{line-more, all-lines, no-lines}

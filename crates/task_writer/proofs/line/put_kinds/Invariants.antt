@@ -1,5 +1,4 @@
-use Rattle.std.proofs.Common.{◌≡◌, ◌++◌, take}
-use Rattle.std.specs.List.{flat_map}
+use Rattle.task_writer.proofs.Vocabulary.{◌≡◌, ◌++◌, take, flat_map}
 use Rattle.task_writer.specs.Lines.{kind_names, kind_lines}
 use Rattle.task_writer.specs.Text.{text_of_lines}
 use Rattle.task_writer.proofs.line.put_kinds.Given as goal

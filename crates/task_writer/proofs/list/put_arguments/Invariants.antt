@@ -1,5 +1,4 @@
-use Rattle.std.proofs.Common.{◌≡◌, ◌++◌, map, take}
-use Rattle.task_syntax.specs.declared.instr.Argument.{Argument}
+use Rattle.task_writer.proofs.Vocabulary.{◌≡◌, ◌++◌, map, take, Argument}
 use Rattle.task_writer.specs.Lines.{passed_of, variable_names}
 use Rattle.task_writer.specs.Words.{passed_word}
 use Rattle.task_writer.specs.Text.{spaced}

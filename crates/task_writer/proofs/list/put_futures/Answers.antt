@@ -1,5 +1,4 @@
-use Rattle.std.proofs.Common.{ℕ, [], ◌∷◌, ◌++◌, ap, ◌∙◌}
-use Rattle.task_text.specs.Text.{Word}
+use Rattle.task_writer.proofs.Vocabulary.{ℕ, [], ◌∷◌, ◌++◌, ap, ◌∙◌, Word}
 use Rattle.task_lines.specs.Grammar.{future_word}
 use Rattle.task_writer.specs.Lines.{name_at, variable_names}
 use Rattle.task_writer.specs.Text.{spaced}

@@ -1,5 +1,4 @@
-use Rattle.std.proofs.Common.{◌≡◌, ◌++◌, map, take}
-use Rattle.task_syntax.specs.declared.program.RootArgument.{RootArgument}
+use Rattle.task_writer.proofs.Vocabulary.{◌≡◌, ◌++◌, map, take, RootArgument}
 use Rattle.task_writer.specs.Lines.{root_term_of, root_names}
 use Rattle.task_writer.specs.Words.{root_term_word}
 use Rattle.task_writer.specs.Text.{spaced}

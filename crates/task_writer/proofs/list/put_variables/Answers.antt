@@ -1,5 +1,4 @@
-use Rattle.std.proofs.Common.{[], ◌∷◌, ◌++◌, ap, ◌∙◌}
-use Rattle.task_syntax.specs.declared.program.Variable.{Variable}
+use Rattle.task_writer.proofs.Vocabulary.{[], ◌∷◌, ◌++◌, ap, ◌∙◌, Variable}
 use Rattle.task_writer.specs.Words.{variable_word}
 use Rattle.task_writer.specs.Text.{spaced}
 use Rattle.task_writer.proofs.Putting.{one-more, nothing-put}

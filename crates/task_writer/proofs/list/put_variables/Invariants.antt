@@ -1,5 +1,4 @@
-use Rattle.std.proofs.Common.{◌≡◌, ◌++◌, map, take}
-use Rattle.task_syntax.specs.declared.program.Variable.{Variable}
+use Rattle.task_writer.proofs.Vocabulary.{◌≡◌, ◌++◌, map, take, Variable}
 use Rattle.task_writer.specs.Words.{variable_word}
 use Rattle.task_writer.specs.Text.{spaced}
 use Rattle.task_writer.proofs.list.put_variables.Given as goal

@@ -1,0 +1,33 @@
+-- The words of the crates below that the proofs of this crate use, in one place.
+pub use Rattle.std.proofs.Common.{◌≡◌, ◌≢◌, ℕ, ◌≤◌, Bool, true, false, cond, Option, Some, None, List, [], ◌∷◌, ◌++◌, length, refl, sym, ◌∙◌, ap, subst, inl, inr, Result, ◌+◌, not, ◌&&◌, ◌||◌, IsTrue, arith, zero, suc, ◌<◌, nat_eq, nat_le, drop, slice_get, Ok, append-nil, Err, if◌then◌else◌, ◌==◌}
+pub use Rattle.std.proofs.lemmas.Bool.{leb-true, eqb-true, le-leb, eq-eqb}
+pub use Rattle.std.proofs.lemmas.List.{length-append, length-drop}
+pub use Rattle.std.proofs.lemmas.List.Folds.{list_any-append}
+pub use Rattle.std.proofs.lemmas.Option.{slice_get_within}
+pub use Rattle.std.proofs.lemmas.Result.{err_from_is_err_and}
+pub use Rattle.std.specs.List.{list_any, list_all, starts_with}
+pub use Rattle.std.specs.Prelude.{codes, nat_lt, ◌^◌}
+pub use Rattle.std.specs.Str.Parse.{digits_value}
+pub use Rattle.task_syntax.proofs.Bools.{both, either, or_right, not_true}
+pub use Rattle.task_syntax.proofs.Differ.{get-front, differ-nil, differ-snoc}
+pub use Rattle.task_syntax.specs.Names.{same_bytes, IsName, is_between, is_letter, is_digit, is_name_byte, is_reserved, begins_with_letter, is_name}
+pub use Rattle.task_syntax.specs.Places.{AllDiffer}
+pub use Rattle.task_syntax.specs.declared.instr.MathOp.{MathOp}
+pub use Rattle.task_syntax.specs.declared.instr.Relation.{Relation}
+pub use Rattle.task_syntax.specs.declared.instr.Relation.TheVariants.{Less, AtMost, Equal, Differs}
+pub use Rattle.task_syntax.specs.declared.program.Sort.{Sort}
+pub use Rattle.task_syntax.specs.declared.program.Variable.{Variable}
+pub use Rattle.task_syntax.specs.declared.value.Priority.{Priority}
+pub use Rattle.task_syntax.specs.declared.value.Priority.TheVariants.{High, Regular, Low}
+pub use Rattle.task_text.proofs.Answering.{Answers, then-answers, pure-answers, seen-is, seen-first, moved-is, fixed-answers, name-answers, new-name-answers, future-answers, eat-answers, eat-nothing, each-answers, one-or-more-answers, need-answers, room-answers, take-answers, ItemAnswers, taken-answers, same-bytes, whole-answers}
+pub use Rattle.task_text.proofs.Lists.{each-more, each-fails, each-ends, moved-shorter}
+pub use Rattle.task_text.proofs.Taken.{same-word, same-ok, parts, roomy, fixed-taken, name-taken, new-name-taken, read-future-taken, each-taken, one-or-more-taken, Eaten, eaten, left, eat-taken, needed, this-word, first-word, future-parts, TakesItem, TakesItems, ItemTakes}
+pub use Rattle.task_text.proofs.Whole.{ArePresent, RowsPresent, rows-present, read-whole, whole-words}
+pub use Rattle.task_text.specs.Cursor.{first_start}
+pub use Rattle.task_text.specs.Fault.{fault_at, Gives}
+pub use Rattle.task_text.specs.Scan.{is_missing, is_future, Scan, first_of, ◌<$>◌, pure, each, one_or_more, Scans, is_number, begins_with_digit, is_present, is_operand, is_no_bad_number, is_among, ◌>>◌, take_word, Outcome, Parser, is_text, start_of, check_text}
+unfoldable pub use Rattle.task_text.specs.Scan.{seen, fixed, read_name, read_new_name, read_future, eat, need, room, moved, check_words, whole}
+pub use Rattle.task_text.specs.Text.{Word, Row, lines_of, without_mark, rows_of, in_front, words_of, code_of, with_row, rows_from}
+pub use Rattle.task_text.specs.declared.fault.Cause.TheVariants.{TwiceNamed, BackLabel, BadName, BadNumber, NotText, NoHeader, NoEnd}
+pub use Rattle.task_text.specs.declared.fault.Fault.{Fault}
+pub use Rattle.task_text.specs.declared.fault.TextError.{TextError}

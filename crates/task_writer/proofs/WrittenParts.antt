@@ -1,0 +1,55 @@
+-- The words that are written of a line are those of its parts, one part after the other.
+use Rattle.task_writer.proofs.Vocabulary.{◌≡◌, List, [], ◌∷◌, ◌++◌, map, refl, codes, Word, What, Part, GotoWord, AName, ANewName, ATarget, ATerm, ARelation, AFuture, KindVariables, MoreVariables, Arguments, RootArguments, Members, HeldFutures, SettledFutures, Predecessor, APriority, LastPriority, ARetry, Of, Values, entry}
+use Rattle.task_lines.specs.declared.step.Step.TheVariants.{Set, Math, If, Goto, Label, Cell, Rows, Spawn, All, Copy, Drop, Get, Again, Done}
+use Rattle.task_lines.specs.declared.item.What.TheVariants as what
+use Rattle.task_lines.specs.Spelling.{future_word, relation_word, behind_words, retry_words}
+use Rattle.task_writer.specs.Words.{term_word, passed_word, root_term_word, variable_word, futures_words, priority_words, line_words}
+
+-- the words of a part
+abbrev pub part_written : (part : Part) → Of part → List Word
+part_written GotoWord v = codes "goto" ∷ []
+part_written AName name = name ∷ []
+part_written (ANewName named) name = name ∷ []
+part_written ATarget name = name ∷ []
+part_written ATerm t = term_word t ∷ []
+part_written ARelation relation = relation_word relation ∷ []
+part_written AFuture name = future_word name ∷ []
+part_written KindVariables variables = map variable_word variables
+part_written MoreVariables variables = map variable_word variables
+part_written Arguments arguments = map passed_word arguments
+part_written RootArguments arguments = map root_term_word arguments
+part_written Members members = map future_word members
+part_written HeldFutures names = futures_words (codes "holds") names
+part_written SettledFutures names = futures_words (codes "settled") names
+part_written Predecessor behind = behind_words behind
+part_written APriority priority = priority_words priority
+part_written LastPriority priority = priority_words priority
+part_written ARetry retry = retry_words retry
+
+-- the words of the parts, one part after the other
+abbrev pub parts_written : (parts : List Part) → Values parts → List Word
+parts_written [] vs = []
+parts_written (part ∷ []) vs = part_written part vs.0
+parts_written (part ∷ next ∷ parts) vs = part_written part vs.0 ++ parts_written (next ∷ parts) vs.1
+
+-- the words that are written of a line are those of its entry
+pub written : (w : What) → line_words w ≡ (entry w).word ∷ parts_written (entry w).parts (entry w).values
+written (what.Kind name arguments) = refl
+written (what.Var variables) = refl
+written (what.State name holds settled) = refl
+written what.End = refl
+written (what.Root name kind arguments behind priority) = refl
+written (what.Step (Set to value)) = refl
+written (what.Step (Math operation to left right)) = refl
+written (what.Step (If relation left right target)) = refl
+written (what.Step (Goto target)) = refl
+written (what.Step (Label name)) = refl
+written (what.Step (Cell to column row)) = refl
+written (what.Step (Rows to column)) = refl
+written (what.Step (Spawn to kind arguments behind priority retry)) = refl
+written (what.Step (All to members priority retry)) = refl
+written (what.Step (Copy to source)) = refl
+written (what.Step (Drop future)) = refl
+written (what.Step (Get to future)) = refl
+written (what.Step (Again target behind priority)) = refl
+written (what.Step (Done value)) = refl
