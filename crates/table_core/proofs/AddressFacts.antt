@@ -81,6 +81,7 @@ kind-below (journal n j) = omega arith
 kind-below (evidence i) = omega arith
 kind-below (sum k) = omega arith
 
+-- an address is the same as itself
 pub same-refl : (a : Addr) → is_same a a ≡ true
 same-refl a = and_from (kind a == kind a) _ (eq-eqb (kind a) (kind a) refl)
     (and_from (minor a == minor a) (major a == major a) (eq-eqb (minor a) (minor a) refl) (eq-eqb (major a) (major a) refl))
@@ -97,9 +98,11 @@ module _ (g : Plan) where
       let t = and_parts (nat_lt (major a) (slice_index (rows g) (kind a))) (nat_lt (minor a) (slice_index (widths g) (kind a))) there in
       (ltb-true (major a) (slice_index (rows g) (kind a)) t.0, ltb-true (minor a) (slice_index (widths g) (kind a)) t.1)
 
+  -- an address whose row and place in the row are in range is in the table
   pub there_from : (a : Addr) → major a < slice_index (rows g) (kind a) → minor a < slice_index (widths g) (kind a) → is_there g a ≡ true
   there_from a below within = and_from _ _ (lt-ltb (major a) (slice_index (rows g) (kind a)) below) (lt-ltb (minor a) (slice_index (widths g) (kind a)) within)
 
+  -- the word of an address in the table lies below the number of words
   pub address-in : (a : Addr) → is_there g a ≡ true → address g a < words_of g
   address-in a there = let t = there_parts a there in before (rows g) (widths g) (kind a) 13 (major a) (minor a) (kind-below a) (kind-below a) (kind-below a) t.0 t.1
 
@@ -144,6 +147,7 @@ module _ (g : Plan) where
           ∙ ap (λ (x : Bool). cond x (slice_index ws (address g b)) 0) (sym e)
           ∙ ap (λ (x : Bool). cond x n (cond (is_there g b) (slice_index ws (address g b)) 0)) (sym s)
 
+  -- what is read at an address is the word that lies there
   pub mem_at : (ws : List ℕ) (a : Addr) → is_there g a ≡ true → mem_of g ws a ≡ slice_index ws (address g a)
   mem_at ws a there = ap (λ (x : Bool). cond x (slice_index ws (address g a)) 0) there
 

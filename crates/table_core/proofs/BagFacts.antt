@@ -31,6 +31,7 @@ times-dropped u w l some = dropped-one (is_at u) u (λ y e. eqb-true y u e) (eq-
 pub times-done : (u : ℕ) (ds : List Done) → times u (map (λ (d : Done). d.unit) ds) ≡ done_at u ds
 times-done u ds = total-map (λ (n : ℕ). one_if (n == u)) (λ (d : Done). d.unit) ds
 
+-- without the done record at u, the done records at each unit are as many as before, but at u one fewer
 pub done-dropped : (u w : ℕ) (ds : List Done) (d : Done) → Has d ds → d.unit ≡ u → done_at w (dropped (is_done_at u) ds) + one_if (u == w) ≡ done_at w ds
 done-dropped u w ds d has e = total-dropped (λ (x : Done). one_if (x.unit == w)) (is_done_at u) (one_if (u == w)) ds
     (λ k x at here. ap (λ (n : ℕ). one_if (n == w)) (eqb-true x.unit u here)) (record { member = d; there = has; passes = eq-eqb d.unit u e })
@@ -43,9 +44,11 @@ times-last u w n l = by (n == 1)
     by true = omega arith
     by false = omega arith
 
+-- a unit is counted once at itself
 pub one-here : (u : ℕ) → one_if (u == u) ≡ 1
 one-here u = ap one_if (eq-eqb u u refl)
 
+-- a unit is not counted at another one
 pub one-apart : (u w : ℕ) → u ≢ w → one_if (u == w) ≡ 0
 one-apart u w ne = ap one_if (ne_eqb u w ne)
 
@@ -72,6 +75,7 @@ module _ (p : Program) (g : Plan) (states counts counts' roots : ℕ → ℕ) (f
   leaving-set : (w : ℕ) → leaving after w + times w b.retiring ≡ leaving bags w + times w b'.retiring
   leaving-set w = total-set (λ (x : Bag). times w x.retiring) bags id b b' at
 
+  -- references stay counted where one hand and one reference word change by the same number
   pub referred-hand : IsReferred p states counts roots frames g bags → (u : ℕ) → u < units_of g → is_record (states u) ≡ true → 1 ≤ counts u
       → ((w : ℕ) → w ≢ u → counts' w ≡ counts w)
       → ((w : ℕ) → w ≢ u → (times w b'.futures ≡ times w b.futures) × (times w b'.done ≡ times w b.done) × (times w b'.retiring ≡ times w b.retiring))

@@ -79,6 +79,7 @@ module _ (m : Mem) (i b new : ℕ) where
         column,
       )
 
+  -- what holds between a bit and itself, and between the one bit that changed and its new value, holds of all bits of the table
   pub bits-changed : (P : ℕ → ℕ → ℕ → Type 0) → ((x : ℕ) → P x x 0) → P (bit_at word (b % 64)) (bit_at new (b % 64)) 1
       → ((k : ℕ) → k < 64 → k ≢ b % 64 → bit_at new k ≡ bit_at word k) → (j d : ℕ) → P (bit_in m j d) (bit_in after j d) (hit i b j d)
   bits-changed P same here others j d = by ((b / 64 == d / 64) && (i == j)) refl

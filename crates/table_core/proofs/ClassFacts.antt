@@ -27,9 +27,11 @@ used-from word some = ap one_if (lt-ltb 0 (phase_of word) (omega (arith, some)))
 pub saved-phase : (word : ℕ) → is_saved word ≡ true → (2 ≤ phase_of word) × (phase_of word ≤ 3)
 saved-phase word e = let t = and_parts (nat_le 2 (phase_of word)) (nat_le (phase_of word) 3) e in (leb-true 2 (phase_of word) t.0, leb-true (phase_of word) 3 t.1)
 
+-- a record that lives waits, is ready or runs
 pub live-phase : (word : ℕ) → is_live word ≡ true → (2 ≤ phase_of word) × (phase_of word ≤ 4)
 live-phase word e = let t = and_parts (nat_le 2 (phase_of word)) (nat_le (phase_of word) 4) e in (leb-true 2 (phase_of word) t.0, leb-true (phase_of word) 4 t.1)
 
+-- a record that is one waits, is ready, runs or is done
 pub record-phase : (word : ℕ) → is_record word ≡ true → (2 ≤ phase_of word) × (phase_of word ≤ 5)
 record-phase word e = let t = and_parts (nat_le 2 (phase_of word)) (nat_le (phase_of word) 5) e in (leb-true 2 (phase_of word) t.0, leb-true (phase_of word) 5 t.1)
 
@@ -42,6 +44,7 @@ module _ (g : Plan) where
   pub unit-parts : (u : ℕ) → superblock_of g u * g.geometry.units + u % g.geometry.units ≡ u
   unit-parts u = div-add-mod' u g.geometry.units
 
+  -- the place of a unit in its superblock is in range
   pub place_in : (u : ℕ) → u % g.geometry.units < g.geometry.units
   place_in u = mod-lt u (omega (arith, g.geometry.units_fit))
 
@@ -60,12 +63,14 @@ module _ (g : Plan) where
       pub classes-stay : (u : ℕ) → u < units_of g → 1 ≤ phase_of (states u) → class_of (supers' (superblock_of g u)) ≡ class_of (supers (superblock_of g u))
       classes-stay u near some = stays (superblock_of g u) (superblock_in u near) (used-counts u near some)
 
+      -- frames fit their blocks still, where no class changes under a record
       pub fits-stay : (p : Program) (frames : ℕ → ℕ → ℕ) (vs : List (List Run)) → FramesFit p g states supers frames vs → FramesFit p g states supers' frames vs
       fits-stay p frames vs was = record {
         saved = λ u near is. omega (arith, was.saved u near is, ap block_units (classes-stay u near (omega (arith, saved-phase (states u) is))));
         running = was.running;
       }
 
+      -- what hands say of their records is so still, where no class changes under a record
       pub own-stay : (words : Addr → ℕ) (vs : List Hands) → OwnSound g supers states words vs → OwnSound g supers' states words vs
       own-stay words vs was = record {
         made = was.made;

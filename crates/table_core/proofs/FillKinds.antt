@@ -35,9 +35,11 @@ use Rattle.table_core.proofs.Owners.{Lies, lies-one, owner-of, own-one, is_fille
 arena-other : (m : Mem) (x n k : ℕ) → k ≢ x → put m (arena x) n (arena k) ≡ m (arena k)
 arena-other m x n k ne = ap (λ (b : Bool). cond b n (m (arena k))) (ne_eqb x k (λ e. ne (sym e)))
 
+-- the task words of other units stay
 pub task-other : (m : Mem) (u n w : ℕ) → w ≢ u → put m (task u) n (task w) ≡ m (task w)
 task-other m u n w ne = ap (λ (b : Bool). cond b n (m (task w))) (ne_eqb u w (λ e. ne (sym e)))
 
+-- the heads of other units stay
 pub head-other : (m : Mem) (u n w : ℕ) → w ≢ u → put m (head u) n (head w) ≡ m (head w)
 head-other m u n w ne = ap (λ (b : Bool). cond b n (m (head w))) (ne_eqb u w (λ e. ne (sym e)))
 
@@ -89,6 +91,7 @@ module _ (g : Setup) (id : ℕ) (v : View) where
           by true e = absurd (own-one g.plan supers (bit_in m) states hands (l pool) (record_words m) owners (l own) k id h (seen own v) there owner_at a
               (subst (λ (y : Addr). is_own h.made h.runs y ≡ true) (sym (same-is a x e)) its_own) mine ne)
 
+      -- what hands own is so after an own word was filled
       pub fill-own : OwnSound g.plan supers states written (slice_set owners id (seen own after_fill))
       fill-own = own-moved g.plan supers states states (record_words m) written owners id (seen own v) (seen own after_fill) owner_at (l own)
           (λ w. refl) (λ w. refl) (λ w. omega (arith, (l own).done w))
@@ -112,6 +115,7 @@ module _ (g : Setup) (id : ℕ) (v : View) where
           let t = owner-of g.plan supers (bit_in m) states hands (l pool) (record_words m) owners (l own) id (seen own v) owner_at a mine in
           (t.0, t.1, elim t.2 [ inl p ↦ inl p.1 | inr p ↦ inr p.1 ])
 
+    -- a unit at which the hand makes a record is in the phase of records that are made
     pub is-made : (u : ℕ) → 1 ≤ made_at u v.made → phase_of (states u) ≡ 1
     is-made u some = (made-phase g.plan supers states (record_words m) owners (l own) id (seen own v) owner_at u some).1
 
@@ -184,6 +188,7 @@ module _ (g : Setup) (id : ℕ) (v : View) where
       abbrev frames' : ℕ → ℕ → ℕ
       frames' = frame_in (put m (arena x) n)
 
+      -- the frame of a saved record is no own word, so it stays
       pub frame-stays : (r : ℕ) → r < units_of g.plan → is_saved (states r) ≡ true → (k : ℕ) → k < frame_length g.checked (frame_in m r 0) → frames' r k ≡ frame_in m r k
       frame-stays r near is k low = arena-other m x n (8 * r + k) (λ e. apart e (filler (arena x) n mine refl))
         where

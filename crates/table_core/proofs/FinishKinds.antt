@@ -36,12 +36,12 @@ use Rattle.table_core.proofs.SightFacts.{sights-written}
 use Rattle.table_core.proofs.WaitSteps.{waits-finished}
 
 -- the running record goes
-runs-dropped : (u w : ℕ) (l : List Run) (r : Run) → Has r l → r.unit ≡ u → runs_at w (dropped (is_run_at u) l) + one_if (u == w) ≡ runs_at w l
+pub runs-dropped : (u w : ℕ) (l : List Run) (r : Run) → Has r l → r.unit ≡ u → runs_at w (dropped (is_run_at u) l) + one_if (u == w) ≡ runs_at w l
 runs-dropped u w l r has e = total-dropped (λ (x : Run). one_if (x.unit == w)) (is_run_at u) (one_if (u == w)) l
     (λ k x at here. ap (λ (n : ℕ). one_if (n == w)) (eqb-true x.unit u here)) (record { member = r; there = has; passes = eq-eqb r.unit u e })
 
 -- what is own still is, once a running record that it is not of has gone
-own-past : (u c : ℕ) (made : List Made) (runs : List Run) → ((r : Run) → Has r runs → r.unit ≡ u → r.class ≡ c) → (a : Addr) → is_own made runs a ≡ true → is_word_of u (block_units c) a ≡ false
+pub own-past : (u c : ℕ) (made : List Made) (runs : List Run) → ((r : Run) → Has r runs → r.unit ≡ u → r.class ≡ c) → (a : Addr) → is_own made runs a ≡ true → is_word_of u (block_units c) a ≡ false
     → is_own made (dropped (is_run_at u) runs) a ≡ true
 own-past u c made runs one a mine not_its = elim (owned-by made runs a mine) [
   | inl t ↦ or-left _ _ (has-any (λ (r : Made). is_word_of r.unit (block_units r.class) a) made t.0 t.1 t.2)
@@ -89,6 +89,7 @@ module _ (g : Setup) (id : ℕ) (v : View) where
     owner_at : At owners id (seen own v)
     owner_at = at_map (seen own) vs id v at
 
+    -- the record that finishes was in range, and ran
     pub ran : (u < units_of g.plan) × (phase_of (states u) ≡ 4)
     ran = runs-phase g.plan supers states (record_words m) owners (l own) id (seen own v) owner_at u (runs-counts v.runs r has)
 
@@ -96,9 +97,11 @@ module _ (g : Setup) (id : ℕ) (v : View) where
     same : (f : ℕ → Bool) → f n ≡ f (states u) → (w : ℕ) → f (states' w) ≡ f (states w)
     same = same-test g id v m vs s l at u n ran.0
 
+    -- what was a record is one still
     pub recorded : (w : ℕ) → is_record (states' w) ≡ is_record (states w)
     recorded = same is_record (ap (λ (p : ℕ). nat_le 2 p && nat_le p 5) done ∙ sym (ap (λ (p : ℕ). nat_le 2 p && nat_le p 5) ran.1))
 
+    -- what was saved is so still, and nothing else is
     pub saved : (w : ℕ) → is_saved (states' w) ≡ is_saved (states w)
     saved = same is_saved (ap (λ (p : ℕ). nat_le 2 p && nat_le p 3) done ∙ sym (ap (λ (p : ℕ). nat_le 2 p && nat_le p 3) ran.1))
 
@@ -109,6 +112,7 @@ module _ (g : Setup) (id : ℕ) (v : View) where
     its_number : r.number ≡ number_of (states u)
     its_number = (l own).numbers id (seen own v) owner_at has.0 r has.1
 
+    -- each unit has the number that it had
     pub number-same : (w : ℕ) → number_of (states' w) ≡ number_of (states w)
     number-same w = elim (cases_eq w u) [
       | inl e ↦ subst (λ (x : ℕ). number_of (states' x) ≡ number_of (states x)) (sym e) (ap number_of (state-here m u n) ∙ numbered ∙ its_number)
@@ -172,6 +176,7 @@ module _ (g : Setup) (id : ℕ) (v : View) where
           own-past u r.class v.made v.runs (λ x there e. mine.run_classes there.0 x there.1 ∙ ap (λ (w : ℕ). class_of (supers (superblock_of g.plan w))) e ∙ sym (mine.run_classes has.0 r has.1)) a known.1 t.1,
         )
 
+    -- each part of the rule holds after the finish
     pub finish-parts : (q : Part) → Says g q s (put m (state u) n) (map (seen q) (slice_set vs id after_finish))
     finish-parts pool = frames g vs id v at pool s (put m (state u) n) after_finish refl (pool-used g.plan supers (bit_in m) states states' (map (seen pool) vs) (l pool) used)
     finish-parts bounds = moves g vs id v at bounds s (put m (state u) n) after_finish

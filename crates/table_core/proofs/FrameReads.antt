@@ -44,6 +44,7 @@ futures-within w w' place (v ∷ vs) h =
     head Number g = refl
     head Future g = ap unit_named (g place (omega arith) (omega arith))
 
+-- words that are equal in a range read as the same list
 pub words-within : (w w' : ℕ → ℕ) (place n : ℕ) → ((k : ℕ) → place ≤ k → k < place + n → w' k ≡ w k) → words_from w' place n ≡ words_from w place n
 words-within w w' place zero h = refl
 words-within w w' place (suc n) h =
@@ -72,6 +73,7 @@ module _ (p : Program) where
   task-names : (w : ℕ → ℕ) → is_aggregate (w 0) ≡ false → named p w ≡ present (futures_of w (vs_of w))
   task-names w e = ap (λ (b : Bool). names_of (cond b (OfMembers (members_at w) (control_at (w 0))) (OfKind (frame_at p w)))) e
 
+  -- an aggregate's frame has one word more than it has members
   pub length-group : (control : ℕ) → is_aggregate control ≡ true → frame_length p control ≡ 1 + control_state control
   length-group control e = ap (λ (b : Bool). cond b (1 + control_state control) (1 + variables_of p (control_kind control))) e
 

@@ -88,6 +88,7 @@ module _ (g : Setup) (m : Mem) (vs : List View) (s : Story) (l : AllSay g s m vs
       (looks-both v w (λ i c. omega (arith, total-append (λ (r : Place). hit r.superblock r.class i c) w.wins v.wins)) (l looks id (seen looks v) (at_map (seen looks) vs id v at)))
       (looks-both w v (λ i c. omega (arith, total-append (λ (r : Place). hit r.superblock r.class i c) w.wins v.wins)) (l looks other (seen looks w) (at_map (seen looks) vs other w at')))
 
+  -- each part of the rule holds of the joined passes
   pub joined_parts : (q : Part) → Says g q s m (after q)
   joined_parts pool = pool-same g.plan (λ i. m (super i)) (bit_in m) (λ u. m (state u)) (map (seen pool) vs) (after pool) (l pool)
       (λ i c. sum-same pool (places g.plan i c) (places-both i c) refl) (λ i c b. sum-same pool (owns g.plan i c b) (owns-both i c b) refl)
@@ -164,6 +165,7 @@ module _ (g : Setup) (m : Mem) (vs : List View) (s : Story) (l : AllSay g s m vs
   joined_parts sights =
       each-after sights (IsKnown (λ u. m (head u)) (λ u. m (task u)) (λ u. m (state u))) (l sights) (l sights id (seen sights v) (at_map (seen sights) vs id v at)) (each-none _)
 
+  -- each part holds where the list of views has the joined pass and the spent one
   pub joined-says : (q : Part) → Says g q s m (map (seen q) (slice_set (slice_set vs id one) other spent))
   joined-says q = subst (Says g q s m) (sym (map-set (seen q) (slice_set vs id one) other spent ∙ ap (λ (xs : List (Seen q)). slice_set xs other (seen q spent)) (map-set (seen q) vs id one))) (joined_parts q)
 

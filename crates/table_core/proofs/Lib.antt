@@ -35,3 +35,4 @@ pub mod Splitting
 pub mod Joining
 pub mod RuleFacts
 pub mod StandingFacts
+pub mod ReadyKinds

@@ -16,6 +16,7 @@ module _ {A : Type 0} where
   none_at : (x : A) → None ≡ Some x → ⊥
   none_at x e = cc
 
+  -- two members under `Some` that are equal are the same
   pub same_some : (x y : A) → Some x ≡ Some y → x ≡ y
   same_some x y e = cc
 
@@ -42,6 +43,7 @@ module _ {A : Type 0} where
     | inr t ↦ let apart = t.0 in inr ((λ e. apart (omega arith)), t.1)
   ]
 
+  -- a list stays where a member is put again where it stands
   pub set_again : (l : List A) (k : ℕ) (x : A) → At l k x → slice_set l k x ≡ l
   set_again [] k x at = absurd (none_at x at)
   set_again (y ∷ l) zero x at = ap (λ (z : A). z ∷ l) (sym (same_some y x at))
@@ -54,21 +56,26 @@ module _ {A : Type 0} where
     | inr t ↦ all j x t.1
   ]
 
+  -- a member of two lists in a row stands in one of them
   pub append_cases : (l more : List A) (k : ℕ) (x : A) → At (l ++ more) k x → Has x l ⊎ Has x more
   append_cases [] more k x at = inr (k, at)
   append_cases (y ∷ l) more zero x at = inl (0, at)
   append_cases (y ∷ l) more (suc k) x at = elim (append_cases l more k x at) [ inl t ↦ inl (suc t.0, t.1) | inr t ↦ inr t ]
 
+  -- what holds of each member of two lists holds of each member of both in a row
   pub each-append : (P : A → Type 0) (l more : List A) → Each P l → Each P more → Each P (l ++ more)
   each-append P l more all all' k x at = elim (append_cases l more k x at) [ inl t ↦ all t.0 x t.1 | inr t ↦ all' t.0 x t.1 ]
 
+  -- of no member there is nothing to show
   pub each-none : (P : A → Type 0) → Each P []
   each-none P k x at = absurd (none_at x at)
 
+  -- what holds of the first and of each other member holds of each
   pub each-cons : (P : A → Type 0) (x : A) (l : List A) → P x → Each P l → Each P (x ∷ l)
   each-cons P x l first all zero y at = subst P (same_some x y at) first
   each-cons P x l first all (suc k) y at = all k y at
 
+  -- what holds of each member holds of each but the first
   pub each-tail : (P : A → Type 0) (x : A) (l : List A) → Each P (x ∷ l) → Each P l
   each-tail P x l all k y at = all (suc k) y at
 
@@ -106,6 +113,7 @@ module _ {A : Type 0} where
       by true h = omega arith
       by false h = omega (arith, h)
 
+  -- a list from which a member is dropped is no longer than before
   pub length-dropped_le : (p : A → Bool) (l : List A) → length (dropped p l) ≤ length l
   length-dropped_le p [] = omega arith
   length-dropped_le p (x ∷ l) = by (p x) (length-dropped_le p l)
@@ -114,6 +122,7 @@ module _ {A : Type 0} where
       by true h = omega arith
       by false h = omega (arith, h)
 
+  -- the member at a position of a mapped list is that of the list, mapped
   pub at_map : {B : Type 0} (f : A → B) (l : List A) (k : ℕ) (x : A) → At l k x → At (map f l) k (f x)
   at_map f [] k x at = absurd (none_at x at)
   at_map f (y ∷ l) zero x at = ap (λ (z : A). Some (f z)) (same_some y x at)
@@ -132,6 +141,7 @@ place-only p r e =
     let near : p.superblock ≡ r.superblock = eqb-true p.superblock r.superblock t.0 in let alike : p.class ≡ r.class = eqb-true p.class r.class t.1 in
     sym (λ k. record { superblock = near k; class = alike k })
 
+-- a place passes the test for itself
 pub place-passes : (p : Place) → is_place p p ≡ true
 place-passes p = and_from (p.superblock == p.superblock) (p.class == p.class) (eq-eqb p.superblock p.superblock refl) (eq-eqb p.class p.class refl)
 
@@ -145,6 +155,7 @@ bool-passes : (a : Bool) → same_bool a a ≡ true
 bool-passes true = refl
 bool-passes false = refl
 
+-- only a block itself passes the test for it
 pub block-only : (x y : Block) → is_block x y ≡ true → y ≡ x
 block-only x y e =
     let t = and_parts (x.unit == y.unit) ((x.class == y.class) && same_bool x.fresh y.fresh) e in let t' = and_parts (x.class == y.class) (same_bool x.fresh y.fresh) t.1 in
@@ -152,15 +163,19 @@ block-only x y e =
     let alike : x.fresh ≡ y.fresh = bool-only x.fresh y.fresh t'.1 in
     sym (λ k. record { unit = units k; class = classes k; fresh = alike k })
 
+-- a block passes the test for itself
 pub block-passes : (x : Block) → is_block x x ≡ true
 block-passes x =
     and_from (x.unit == x.unit) _ (eq-eqb x.unit x.unit refl) (and_from (x.class == x.class) (same_bool x.fresh x.fresh) (eq-eqb x.class x.class refl) (bool-passes x.fresh))
 
+-- a sum over places, without one of them, is less by its weight
 pub dropped-place : (p : Place) (f : Place → ℕ) (l : List Place) → Has p l → total f (dropped (is_place p) l) + f p ≡ total f l
 dropped-place p = dropped-one (is_place p) p (place-only p) (place-passes p)
 
+-- a sum over blocks, without one of them, is less by its weight
 pub dropped-block : (x : Block) (f : Block → ℕ) (l : List Block) → Has x l → total f (dropped (is_block x) l) + f x ≡ total f l
 dropped-block x = dropped-one (is_block x) x (block-only x) (block-passes x)
 
+-- no member weighs more than all together
 pub total-has : {A : Type 0} (f : A → ℕ) (l : List A) (x : A) → Has x l → f x ≤ total f l
 total-has f l x has = total-member f l has.0 x has.1

@@ -150,6 +150,7 @@ module _ (g : Setup) (id : ℕ) (v : View) where
       join-list = list-here states heads nexts g.plan waiting_vs (l waits) u (heads' u word refers.1 longer) (head-other m u word) refers.0 opened id (seen waits v) waits_at_id w x has_waiter refl linked_to
           (ap link_of (head-here m u word) ∙ says.link_is) (ap length_of (head-here m u word) ∙ says.length_is ∙ plus_one (length_of (heads u))) (λ e. not_closed (sym (head-here m u word) ∙ e))
 
+      -- each part of the rule holds after a waiter was pushed
       pub join-parts : (q : Part) → Says g q s (put m (head u) word) (map (seen q) (slice_set vs id after_join))
       join-parts waits = moves g vs id v at waits s (put m (head u) word) after_join
           (waits-joined states heads nexts g.plan waiting_vs (l waits) u (heads' u word refers.1 longer) (head-other m u word) refers.0 opened id (seen waits v) waits_at_id w x has_waiter refl linked_to
@@ -165,6 +166,7 @@ module _ (g : Setup) (id : ℕ) (v : View) where
       abbrev after_try : View
       after_try = saw (head u) (heads u) (saw_head u (heads u) (tried v))
 
+      -- each part of the rule holds after a push that came too late
       pub try-parts : (q : Part) → Says g q s m (map (seen q) (slice_set vs id after_try))
       try-parts sights = moves g vs id v at sights s m after_try
           (each-set _ (map (seen sights) vs) id (seen sights after_try) (l sights)
@@ -204,6 +206,7 @@ module _ (g : Setup) (id : ℕ) (v : View) where
       was_opened = was-open states heads nexts g.plan waiting_vs (l waits) unit (heads' unit closed_word is closes) (head-other m unit closed_word) done_there.0 id (seen waits v) waits_at_id d has refl not_closed
           done_there.1 one (head-here m unit closed_word)
 
+      -- each part of the rule holds after a list was closed
       pub close-parts : (q : Part) → Says g q s (put m (head unit) closed_word) (map (seen q) (slice_set vs id after_close))
       close-parts waits = moves g vs id v at waits s (put m (head unit) closed_word) after_close
           (waits-closed states heads nexts g.plan waiting_vs (l waits) unit (heads' unit closed_word is closes) (head-other m unit closed_word) done_there.0 id (seen waits v) waits_at_id d has refl not_closed
@@ -234,6 +237,7 @@ module _ (g : Setup) (id : ℕ) (v : View) where
           open_word : heads unit ≢ closed_word
           open_word e = true≢false (sym (and_parts (is_record (states unit)) (not (heads unit == closed_word)) was_opened).1 ∙ ap not (eq-eqb (heads unit) closed_word e))
 
+      -- the chain that is taken is the list as it stood
       pub close-taken : IsTaken g.plan (heads unit) taken
       close-taken = record {
         is_head = inr (omega (arith, units-few g.plan, length-few states heads nexts g.plan waiting_vs (l waits) unit done_there.0 was_opened));

@@ -75,6 +75,7 @@ module _ (passes : ℕ → Bool) where
       by true rest = omega (arith, rest, ap one_if (ne_eqb u (u + suc k) (λ e. omega (arith, e))), ap (λ (w : ℕ). times w (units_in passes (suc u) phases)) (let e : u + suc k ≡ suc u + k = omega arith in e))
       by false rest = ap (λ (w : ℕ). times w (units_in passes (suc u) phases)) (let e : u + suc k ≡ suc u + k = omega arith in e) ∙ rest
 
+  -- the units of records that pass a test are counted once where their phase passes, and else not at all
   pub counted-in : (phases : List Phase) (u : ℕ) → times u (units_in passes 0 phases) ≡ cond (nat_lt u (length phases)) (one_if (passes (code_at phases u))) 0
   counted-in phases u = ap (λ (w : ℕ). times w (units_in passes 0 phases)) (let e : u ≡ 0 + u = omega arith in e) ∙ counted-from phases 0 u
 
@@ -89,9 +90,11 @@ pub times-made : {A : Type 0} (make : ℕ → A) (unit : A → ℕ) → ((u : �
 times-made make unit own u [] = refl
 times-made make unit own u (w ∷ units) = omega (arith, times-made make unit own u units, ap (λ (x : ℕ). one_if (x == u)) (own w))
 
+-- what holds of each record that is made from a unit holds of all records so made
 pub each-made : {A : Type 0} (P : A → Type 0) (make : ℕ → A) → ((u : ℕ) → P (make u)) → (units : List ℕ) → Each P (map make units)
 each-made P make all units k x at = let t = map_at make units k x at in subst P t.2 (all t.0)
 
+-- a sum over copies is the weight of one, so many times
 pub total-replicate : {A : Type 0} (f : A → ℕ) (n : ℕ) (x : A) → total f (replicate n x) ≡ n * f x
 total-replicate f zero x = omega arith
 total-replicate f (suc n) x = omega (arith, total-replicate f n x, suc-mul n (f x))

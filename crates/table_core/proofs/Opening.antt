@@ -32,6 +32,7 @@ get_or-zeros zero k = refl
 get_or-zeros (suc n) zero = refl
 get_or-zeros (suc n) (suc k) = get_or-zeros n k
 
+-- words that are all 0 read as 0 at each address
 pub mem-zeros : (g : Plan) (n : ℕ) → mem_of g (replicate n 0) ≡ zeros
 mem-zeros g n = λ i a. at (is_there g a) a i
   where
@@ -39,6 +40,7 @@ mem-zeros g n = λ i a. at (is_there g a) a i
     at true a = get_or-zeros n (address g a)
     at false a = refl
 
+-- a sum of zeros is 0
 pub below-zeros : (n : ℕ) → below (λ k. 0) n ≡ 0
 below-zeros zero = refl
 below-zeros (suc n) = omega (arith, below-zeros n)
@@ -69,6 +71,7 @@ module _ (g : Setup) where
       by true = ap one_if other
       by false = refl
 
+  -- each part of the rule holds of words that are 0 and the first view
   pub first_parts : (q : Part) → Says g q unwritten zeros (map (seen q) (first_view ∷ []))
   first_parts pool = record {
     kept = λ i near. opened i;
@@ -106,6 +109,7 @@ module _ (g : Setup) where
       (each-cons _ (seen waits first_view) [] (record { done_closed = each-none _; chains = each-none _; numbers = each-none _; linked = each-none _ }) (each-none _))
   first_parts sights = each-cons _ (seen sights first_view) [] (each-none _) (each-none _)
 
+  -- the rule holds of words that are 0 and the first view
   pub holds-first : (n : ℕ) → n ≡ words_of g.plan → Holds g (replicate n 0) (first_view ∷ [])
   holds-first n long = (
     length-replicate n 0 ∙ long,

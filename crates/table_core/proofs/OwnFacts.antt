@@ -23,9 +23,11 @@ knows-nothing a n e = let no : None ≡ Some n → ⊥ = λ x. cc in no e
 pub made-counts : (l : List Made) (r : Made) → Has r l → 1 ≤ made_at r.unit l
 made-counts l r has = omega (arith, total-has (λ (x : Made). one_if (x.unit == r.unit)) l r has, ap one_if (eq-eqb r.unit r.unit refl))
 
+-- a run that the hand has is counted at its unit
 pub runs-counts : (l : List Run) (r : Run) → Has r l → 1 ≤ runs_at r.unit l
 runs-counts l r has = omega (arith, total-has (λ (x : Run). one_if (x.unit == r.unit)) l r has, ap one_if (eq-eqb r.unit r.unit refl))
 
+-- a done record that the hand has is counted at its unit
 pub done-counts : (l : List Done) (d : Done) → Has d l → 1 ≤ done_at d.unit l
 done-counts l d has = omega (arith, total-has (λ (x : Done). one_if (x.unit == d.unit)) l d has, ap one_if (eq-eqb d.unit d.unit refl))
 
@@ -37,6 +39,7 @@ module _ (g : Plan) (supers states : ℕ → ℕ) (words : Addr → ℕ) where
     pub numbers : Each (λ (r : Run). r.number ≡ number_of (states r.unit)) h.runs
     pub known : (a : Addr) (n : ℕ) → known_in a h.known ≡ Some n → (words a ≡ n) × (is_own h.made h.runs a ≡ true)
 
+  -- each hand is sound where all hands are sound together
   pub hands-from : (vs : List Hands) → OwnSound g supers states words vs → Each IsHand vs
   hands-from vs sound k h at = record { classes = sound.classes k h at; run_classes = sound.run_classes k h at; numbers = sound.numbers k h at; known = sound.known k h at }
 
@@ -66,9 +69,11 @@ module _ (g : Plan) (supers states : ℕ → ℕ) (words : Addr → ℕ) where
   pub made-phase : (vs : List Hands) → OwnSound g supers states words vs → (k : ℕ) (h : Hands) → At vs k h → (u : ℕ) → 1 ≤ made_at u h.made → (u < units_of g) × (phase_of (states u) ≡ 1)
   made-phase vs sound k h at u some = in-phase 1 u (omega (arith, some, sound.made u, total-member (λ (x : Hands). made_at u x.made) vs k h at))
 
+  -- where a hand has a run, the unit is in range and its record runs
   pub runs-phase : (vs : List Hands) → OwnSound g supers states words vs → (k : ℕ) (h : Hands) → At vs k h → (u : ℕ) → 1 ≤ runs_at u h.runs → (u < units_of g) × (phase_of (states u) ≡ 4)
   runs-phase vs sound k h at u some = in-phase 4 u (omega (arith, some, sound.running u, total-member (λ (x : Hands). runs_at u x.runs) vs k h at))
 
+  -- where a hand has a done record, the unit is in range and its record is done
   pub done-phase : (vs : List Hands) → OwnSound g supers states words vs → (k : ℕ) (h : Hands) → At vs k h → (u : ℕ) → 1 ≤ done_at u h.done → (u < units_of g) × (phase_of (states u) ≡ 5)
   done-phase vs sound k h at u some = in-phase 5 u (omega (arith, some, sound.done u, total-member (λ (x : Hands). done_at u x.done) vs k h at))
 
@@ -97,6 +102,7 @@ hand-kept g supers states words words' h is kept = record {
 
 -- one hand changes, and words
 module _ (g : Plan) (supers states states' : ℕ → ℕ) (words words' : Addr → ℕ) (vs : List Hands) (id : ℕ) (h h' : Hands) (at : At vs id h) where
+  -- hands own what they say still, where one hand and the phases change by the same records
   pub own-moved : OwnSound g supers states words vs
       → ((u : ℕ) → made_at u h'.made + is_in g states 1 u ≡ made_at u h.made + is_in g states' 1 u)
       → ((u : ℕ) → runs_at u h'.runs + is_in g states 4 u ≡ runs_at u h.runs + is_in g states' 4 u)

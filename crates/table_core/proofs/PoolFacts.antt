@@ -17,10 +17,12 @@ use Rattle.table_core.specs.Holdings.{Block}
 use Rattle.table_core.specs.Pool.{cap, unit_of, superblock_of, bit_of, IsBlock, is_used, Hand, places, owns, records, used_at, held, owned, IsKept, PoolSound}
 use Rattle.table_core.proofs.ListFacts.{each-set}
 
+-- two numbers under one condition add up under it
 pub cond-plus : (b : Bool) (x y : ℕ) → cond b x 0 + cond b y 0 ≡ cond b (x + y) 0
 cond-plus true x y = refl
 cond-plus false x y = refl
 
+-- a number under a condition is at most the number
 pub cond-le : (b : Bool) (x : ℕ) → cond b x 0 ≤ x
 cond-le true x = omega arith
 cond-le false x = omega arith
@@ -33,21 +35,27 @@ class_from k c x some = by (k == c) refl some
     by true e h = eqb-true k c e
     by false e h = absurd (omega arith)
 
+-- a number under the condition of two equal ones is the number
 pub cond-at : (k c x : ℕ) → k ≡ c → cond (k == c) x 0 ≡ x
 cond-at k c x e = ap (λ (b : Bool). cond b x 0) (eq-eqb k c e)
 
+-- a number under the condition of two different ones is 0
 pub cond-apart : (k c x : ℕ) → k ≢ c → cond (k == c) x 0 ≡ 0
 cond-apart k c x ne = ap (λ (b : Bool). cond b x 0) (ne_eqb k c ne)
 
+-- a place of another superblock is not hit
 pub hit-apart : (i c j k : ℕ) → i ≢ j → hit i c j k ≡ 0
 hit-apart i c j k ne = cond-apart i j (cond (c == k) 1 0) ne
 
+-- in its superblock a place is hit where the class is the same
 pub hit-here : (i c k : ℕ) → hit i c i k ≡ cond (c == k) 1 0
 hit-here i c k = cond-at i i (cond (c == k) 1 0) refl
 
+-- a block of another superblock is not hit
 pub hit3-apart : (i c b j k d : ℕ) → i ≢ j → hit3 i c b j k d ≡ 0
 hit3-apart i c b j k d ne = cond-apart i j (cond (c == k) (cond (b == d) 1 0) 0) ne
 
+-- in its superblock a block is hit where class and bit are the same
 pub hit3-here : (i c b k d : ℕ) → hit3 i c b i k d ≡ cond (c == k) (cond (b == d) 1 0) 0
 hit3-here i c b k d = cond-at i i (cond (c == k) (cond (b == d) 1 0) 0) refl
 
@@ -94,6 +102,7 @@ module _ (g : Plan) where
   pub names_place : (i c b : ℕ) → c ≤ 3 → b < cap g c → (superblock_of g (unit_of g i c b) ≡ i) × (bit_of g (unit_of g i c b) c ≡ b)
   names_place i c b fits below = unit_names_place g.geometry i c b fits below
 
+  -- superblock, class and bit in range make a block
   pub block_there : (i c b : ℕ) → i < g.geometry.superblocks → c ≤ 3 → b < cap g c → IsBlock g (unit_of g i c b) c
   block_there i c b near fits below =
       let t = names_place i c b fits below in
@@ -108,6 +117,7 @@ module _ (g : Plan) where
   pub superblock_near : (u c : ℕ) → IsBlock g u c → superblock_of g u < g.geometry.superblocks
   superblock_near u c is = (div-lt_iff_lt-mul {k = g.geometry.units} {x = u} {y = g.geometry.superblocks} (omega (arith, g.geometry.units_fit))).1 is.inside
 
+  -- the bit of a block is below the capacity of its class
   pub bit_below : (u c : ℕ) → IsBlock g u c → bit_of g u c < cap g c
   bit_below u c is =
       let within : u % g.geometry.units < g.geometry.units = mod-lt u (omega (arith, g.geometry.units_fit)) in
@@ -156,6 +166,7 @@ module _ (g : Plan) where
     pub places_after : (i c : ℕ) → total (places g i c) (slice_set hands id h') + places g i c h ≡ total (places g i c) hands + places g i c h'
     places_after i c = total-set (places g i c) hands id h h' at
 
+    -- where one hand changes, the owners of a block change by what that hand had and has
     pub owns_after : (i c b : ℕ) → total (owns g i c b) (slice_set hands id h') + owns g i c b h ≡ total (owns g i c b) hands + owns g i c b h'
     owns_after i c b = total-set (owns g i c b) hands id h h' at
 
@@ -163,6 +174,7 @@ module _ (g : Plan) where
     pub places-held : (i c : ℕ) → places g i c h ≤ held g supers states hands i c
     places-held i c = omega (arith, total-member (places g i c) hands id h at)
 
+    -- what one hand owns of a block is at most what all own
     pub owns-owned : (i c b : ℕ) → owns g i c b h ≤ owned g supers states hands i c b
     owns-owned i c b = omega (arith, total-member (owns g i c b) hands id h at)
 

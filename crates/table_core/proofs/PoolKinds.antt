@@ -41,6 +41,7 @@ super-here m i n = ap (λ (b : Bool). cond b n (m (super i))) (eq-eqb i i refl)
 super-other : (m : Mem) (i n j : ℕ) → j ≢ i → put m (super i) n (super j) ≡ m (super j)
 super-other m i n j ne = ap (λ (b : Bool). cond b n (m (super j))) (ne_eqb i j (λ e. ne (sym e)))
 
+-- a bit is 0 or 1
 pub bit_two : (n k : ℕ) → (bit_at n k ≡ 0) ⊎ (bit_at n k ≡ 1)
 bit_two n k = by (bit_at n k) (omega arith)
   where
@@ -276,6 +277,7 @@ module _ (g : Setup) (id : ℕ) (v : View) where
           (let e : seen evers v ≡ seen evers after_clear = omega (arith, dropped-block x (λ (y : Block). one_if y.fresh) v.blocks has) in e) (l evers)
       clear-parts q = frames g vs id v at q s unmarked after_clear refl (l q)
 
+  -- a look at a superblock keeps the rule
   pub looks-at : (i c : ℕ) → i < g.plan.geometry.superblocks → Keeps g id v (super i) (λ n. n) (λ r w. (w ≡ saw (super i) r (looked i c r v)) × (class_of r ≤ 3))
   looks-at i c near m vs s l at small = (
     after_look m vs s l at i c near,
@@ -284,6 +286,7 @@ module _ (g : Setup) (id : ℕ) (v : View) where
     (refl, refl),
   )
 
+  -- a try to reserve a place of a superblock keeps the rule
   pub reserves-at : (i c old new : ℕ) → i < g.plan.geometry.superblocks → c ≤ 3 → 1 ≤ v.parts → (class_of old ≡ c) ⊎ (count_of old ≡ 0) → count_of old < cap g.plan c → new ≡ reserved_word old c
       → Keeps g id v (super i) (λ n. either (n == old) new n) (λ r w. Tried old (saw (super i) r v) (saw (super i) r (reserved (place i c) v)) r w × (class_of r ≤ 3))
   reserves-at i c old new near low_class in_use which room new_is m vs s l at small = exchanged (m (super i)) old new
@@ -301,6 +304,7 @@ module _ (g : Setup) (id : ℕ) (v : View) where
         (refl, refl),
       ))
 
+  -- the settling of a place keeps the rule
   pub settles-at : (i c : ℕ) → i < g.plan.geometry.superblocks → 1 ≤ v.parts → Has (place i c) v.debts
       → Keeps g id v (super i) (λ n. (n + (2 ^ 64 - 1)) % 2 ^ 64) (λ r w. w ≡ saw (super i) r (settled (place i c) v))
   settles-at i c near in_use has m vs s l at small = (
@@ -310,6 +314,7 @@ module _ (g : Setup) (id : ℕ) (v : View) where
     (refl, refl),
   )
 
+  -- a try to claim a bit keeps the rule
   pub claims-at : (i c b : ℕ) → i < g.plan.geometry.superblocks → c ≤ 3 → b < cap g.plan c → 1 ≤ v.parts → Has (place i c) v.reserved
       → Keeps g id v (bits i (b / 64)) (λ n. bit_or n (one_bit b)) (λ r w. WonBit b (saw (bits i (b / 64)) r v) (saw (bits i (b / 64)) r (claimed g.plan (place i c) b v)) r w)
   claims-at i c b near low_class below in_use has m vs s l at small = by (bit_two (m (bits i (b / 64))) (b % 64))
@@ -330,6 +335,7 @@ module _ (g : Setup) (id : ℕ) (v : View) where
         (refl, refl),
       )
 
+  -- the clearing of a block's bit keeps the rule
   pub clears-at : (x : Block) → 1 ≤ v.parts → Has x v.blocks
       → Keeps g id v (bits (superblock_of g.plan x.unit) (bit_of g.plan x.unit x.class / 64)) (λ n. bit_and n (all_but (bit_of g.plan x.unit x.class)))
       (λ r w. w ≡ saw (bits (superblock_of g.plan x.unit) (bit_of g.plan x.unit x.class / 64)) r (cleared g.plan x v))

@@ -114,6 +114,7 @@ module _ (g : Plan) (supers : ℕ → ℕ) (bits : ℕ → ℕ → ℕ) (states 
             inside = λ k b past. nothing_owned none k b;
           }
 
+      -- the pool is sound after a place was reserved
       pub pool-reserved : (class_of (supers i) ≡ c) ⊎ (count_of (supers i) ≡ 0) → ((j : ℕ) → j ≢ i → supers' j ≡ supers j) → PoolSound g supers' bits states after
       pool-reserved which others = pool-moved g supers bits states hands id h more at sound supers' bits i others (λ j b ne small. refl)
           (λ j k ne. omega (arith, hit-apart i c j k (λ e. ne (sym e)))) (λ j k b ne. refl) blocks-of (first which) (λ near'. here which)
@@ -157,6 +158,7 @@ module _ (g : Plan) (supers : ℕ → ℕ) (bits : ℕ → ℕ → ℕ) (states 
             inside = λ k b past. omega (arith, same_owns k b, same k (used_at g states i k b), kept.inside k b past);
           }
 
+      -- the pool is sound after a place was settled
       pub pool-settled : ((j : ℕ) → j ≢ i → supers' j ≡ supers j) → PoolSound g supers' bits states left
       pool-settled others = pool-moved g supers bits states hands id h paid at sound supers' bits i others (λ j b ne small. refl)
           (λ j k ne. omega (arith, one_less j k, hit-apart i c j k (λ e. ne (sym e)))) (λ j k b ne. refl) blocks-of
@@ -210,6 +212,7 @@ module _ (g : Plan) (supers : ℕ → ℕ) (bits : ℕ → ℕ → ℕ) (states 
           outside k d past (inl e) = cond-at c k _ e ∙ cond-apart b d 1 (λ same. omega (arith, below, past, same, ap (cap g) e))
           outside k d past (inr ne) = cond-apart c k _ ne
 
+      -- the pool is sound after a bit was set
       pub pool-claimed : PoolSound g supers bits' states then
       pool-claimed = pool-moved g supers bits states hands id h won at sound supers bits' i (λ j ne. refl) (λ j d ne small. omega (arith, set j d small, hit-apart i b j d (λ e. ne (sym e))))
           (λ j k ne. same_places j k) (λ j k d ne. omega (arith, one_block j k d, hit3-apart i c b j k d (λ e. ne (sym e))))
@@ -261,6 +264,7 @@ module _ (g : Plan) (supers : ℕ → ℕ) (bits : ℕ → ℕ → ℕ) (states 
           inside = λ k d past. omega (arith, owned_after k d, was.inside k d past);
         }
 
+    -- the pool is sound after a bit was cleared
     pub pool-cleared : PoolSound g supers bits' states later
     pool-cleared = pool-moved g supers bits states hands id h given at sound supers bits' its (λ j ne. refl)
         (λ j d ne small. omega (arith, clear j d small, hit-apart its (bit_of g x.unit x.class) j d (λ e. ne (sym e))))

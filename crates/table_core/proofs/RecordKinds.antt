@@ -41,6 +41,7 @@ use Rattle.table_core.proofs.RecordWords.{state-own, words-state, forgets, made-
 pub state-here : (m : Mem) (u n : ℕ) → put m (state u) n (state u) ≡ n
 state-here m u n = ap (λ (b : Bool). cond b n (m (state u))) (eq-eqb u u refl)
 
+-- the state words of other units stay
 pub state-other : (m : Mem) (u n w : ℕ) → w ≢ u → put m (state u) n (state w) ≡ m (state w)
 state-other m u n w ne = ap (λ (b : Bool). cond b n (m (state w))) (ne_eqb u w (λ e. ne (sym e)))
 
@@ -62,12 +63,12 @@ test_live p = nat_le 2 p && nat_le p 4
 abbrev test_record : ℕ → Bool
 test_record p = nat_le 2 p && nat_le p 5
 
-no-cond : (b : Bool) → ◌≡◌ {A = ℕ} (cond b 0 0) 0
+pub no-cond : (b : Bool) → ◌≡◌ {A = ℕ} (cond b 0 0) 0
 no-cond true = refl
 no-cond false = refl
 
 -- a record that is made goes
-made-dropped : (u w : ℕ) (l : List Made) (r : Made) → Has r l → r.unit ≡ u → made_at w (dropped (is_made_at u) l) + one_if (u == w) ≡ made_at w l
+pub made-dropped : (u w : ℕ) (l : List Made) (r : Made) → Has r l → r.unit ≡ u → made_at w (dropped (is_made_at u) l) + one_if (u == w) ≡ made_at w l
 made-dropped u w l r has e = total-dropped (λ (x : Made). one_if (x.unit == w)) (is_made_at u) (one_if (u == w)) l
     (λ k x at here. ap (λ (n : ℕ). one_if (n == w)) (eqb-true x.unit u here)) (record { member = r; there = has; passes = eq-eqb r.unit u e })
 
@@ -111,6 +112,7 @@ module _ (g : Setup) (id : ℕ) (v : View) where
       abbrev states' : ℕ → ℕ
       states' w = put m (state u) n (state w)
 
+      -- a test that the old word and the new one answer alike is answered alike at each unit
       pub same-test : (f : ℕ → Bool) → f n ≡ f (states u) → (w : ℕ) → f (states' w) ≡ f (states w)
       same-test f same w = by (cases_eq w u)
         where
@@ -121,6 +123,7 @@ module _ (g : Setup) (id : ℕ) (v : View) where
       in-here : (phase : ℕ) → is_in g.plan states' phase u ≡ one_if (phase_of n == phase)
       in-here phase = ap (λ (b : Bool). cond b (one_if (phase_of (states' u) == phase)) 0) (lt-ltb u (units_of g.plan) near) ∙ ap (λ (x : ℕ). one_if (phase_of x == phase)) (state-here m u n)
 
+      -- the unit stood in a phase exactly where its word says so
       pub in-was : (phase : ℕ) → is_in g.plan states phase u ≡ one_if (phase_of (states u) == phase)
       in-was phase = ap (λ (b : Bool). cond b (one_if (phase_of (states u) == phase)) 0) (lt-ltb u (units_of g.plan) near)
 
@@ -159,6 +162,7 @@ module _ (g : Setup) (id : ℕ) (v : View) where
         running = (l fits).running;
       })
 
+      -- each state word is one after the step
       pub shaped-now : IsStateWord n → (w : ℕ) → w < units_of g.plan → IsStateWord (states' w)
       shaped-now is w low = by (cases_eq w u)
         where
@@ -195,6 +199,7 @@ module _ (g : Setup) (id : ℕ) (v : View) where
       words-kept k h there none a mine = words-state m u n a
           (λ w e same. omega (arith, none, state-own h.made h.runs u (subst (λ (b : Addr). is_own h.made h.runs b ≡ true) (e ∙ ap state same) mine)))
 
+      -- where the phase is another one, no hand makes a record
       pub not-made : ¬ (phase_of (states u) ≡ 1) → (k : ℕ) (h : Hands) → At owners k h → made_at u h.made ≡ 0
       not-made other k h there = by (cases_eq (made_at u h.made) 0)
         where
@@ -210,15 +215,18 @@ module _ (g : Setup) (id : ℕ) (v : View) where
       abbrev after_found : View
       after_found = saw (state u) (m (state u)) (founded x v)
 
+      -- the block that becomes a record is one of the table
       pub block_is : IsBlock g.plan u x.class
       block_is = (l pool).blocks id (seen pool v) hand_at has.0 x has.1
 
       free : (is_used (states u) ≡ 0) × (class_of (supers (superblock_of g.plan u)) ≡ x.class)
       free = block_free g.plan supers (bit_in m) states hands id (seen pool v) hand_at (l pool) (λ j d. omega arith) x has block_is
 
+      -- no record stood in the block
       pub none_there : phase_of (states u) ≡ 0
       none_there = free-phase (states u) free.0
 
+      -- each part of the rule holds after a record was made in a block
       pub found-parts : (q : Part) → Says g q s (put m (state u) 1) (map (seen q) (slice_set vs id after_found))
       found-parts pool = moves g vs id v at pool s (put m (state u) 1) after_found
           (pool-came g.plan supers states (states' u 1 block_is.inside) u x.class block_is free.1 free.0 (ap is_used (state-here m u 1)) (state-other m u 1) (bit_in m) hands id (seen pool v) (seen pool after_found)
@@ -260,6 +268,7 @@ module _ (g : Setup) (id : ℕ) (v : View) where
       abbrev after_unmake : View
       after_unmake = saw (state unit) (m (state unit)) (unmade unit r.class v)
 
+      -- the record that is made is in range, and in its phase
       pub made_there : (unit < units_of g.plan) × (phase_of (states unit) ≡ 1)
       made_there = made-phase g.plan supers states (record_words m) owners (l own) id (seen own v) owner_at unit (made-counts v.made r has)
 
@@ -274,6 +283,7 @@ module _ (g : Setup) (id : ℕ) (v : View) where
       only_made : total (λ (h : Hands). made_at unit h.made) owners ≡ 1
       only_made = (l own).made unit ∙ in-was unit 0 made_there.0 1 ∙ ap (λ (p : ℕ). one_if (p == 1)) made_there.1
 
+      -- the hand makes one record at most at the unit
       pub made_few : made_at unit v.made ≤ 1
       made_few = omega (arith, only_made, total-member (λ (h : Hands). made_at unit h.made) owners id (seen own v) owner_at)
 
@@ -281,6 +291,7 @@ module _ (g : Setup) (id : ℕ) (v : View) where
       nobody-else k h ne there =
           omega (arith, only_made, made-counts v.made r has, total-two_members (λ (x : Hands). made_at unit x.made) owners k id h (seen own v) ne there owner_at)
 
+      -- each part of the rule holds after a record became a block again
       pub unmake-parts : (q : Part) → Says g q s (put m (state unit) 0) (map (seen q) (slice_set vs id after_unmake))
       unmake-parts pool = moves g vs id v at pool s (put m (state unit) 0) after_unmake
           (pool-went g.plan supers (states' unit 0 made_there.0) states unit r.class in_its_block (sym class_is) (ap is_used (state-here m unit 0))
@@ -355,6 +366,7 @@ module _ (g : Setup) (id : ℕ) (v : View) where
       nothing : 0 ≡ places_in g.checked states (λ w. m (refs w)) (λ r. m (root r)) (frame_in m) g.plan bags u + own_in g.checked states (λ w. m (refs w)) (λ r. m (root r)) (frame_in m) bags u
       nothing = sym at_its_last.1 ∙ (l references).counted u near at_its_last.0
 
+      -- the record at its last reference is done
       pub is_done : phase_of (states u) ≡ 5
       is_done = by (is_live (states u)) refl
         where
@@ -378,6 +390,7 @@ module _ (g : Setup) (id : ℕ) (v : View) where
             total-le (λ (x : View). unclosed_at u x.done) (λ (x : View). done_at u x.done) vs (λ k x there. unclosed-le u x.done),
           )
 
+      -- it stands in a block of its class
       pub in_block : IsBlock g.plan u class
       in_block = record_block g.plan supers (bit_in m) states hands (l pool) u near (used-from (states u) (omega (arith, is_done)))
 
@@ -442,6 +455,7 @@ module _ (g : Setup) (id : ℕ) (v : View) where
           last w low (inr ne) = omega (arith, leaving-less w, one-apart u w (λ e. ne (sym e)), was.last w low)
               ∙ ap (λ (x : ℕ). cond (is_record x) (one_if (m (refs w) == 0)) 0) (sym (state-other m u 0 w ne))
 
+      -- each part of the rule holds after a record was retired
       pub retire-parts : (q : Part) → Says g q s (put m (state u) 0) (map (seen q) (slice_set vs id after_retire))
       retire-parts pool = moves g vs id v at pool s (put m (state u) 0) after_retire
           (pool-went g.plan supers now states u class in_block refl (ap is_used (state-here m u 0))

@@ -21,6 +21,7 @@ any-has p (x ∷ l) e = by (p x) refl (any-has p l) e
     by true here rest h = (x, (0, refl), here)
     by false here rest h = let t = rest h in (t.0, (suc t.1.0, t.1.1), t.2)
 
+-- a list with a member that passes has one that passes
 pub has-any : {A : Type 0} (p : A → Bool) (l : List A) (x : A) → Has x l → p x ≡ true → any p l ≡ true
 has-any p l x has e = at_place l has.0 has.1
   where
@@ -38,6 +39,7 @@ pub or-left : (a b : Bool) → a ≡ true → (a || b) ≡ true
 or-left true b e = refl
 or-left false b e = absurd (true≢false (sym e))
 
+-- a test holds with another one where it holds alone
 pub or-right : (a b : Bool) → b ≡ true → (a || b) ≡ true
 or-right true b e = refl
 or-right false b e = e
@@ -51,6 +53,7 @@ either_test false b e = inr e
 abbrev pub OwnedBy : List Made → List Run → Addr → Type 0
 OwnedBy made runs a = ((r : Made) × Has r made × (is_word_of r.unit (block_units r.class) a ≡ true)) ⊎ ((r : Run) × Has r runs × (is_result_of r.unit (block_units r.class) a ≡ true))
 
+-- an own word belongs to a record that the hand makes or runs
 pub owned-by : (made : List Made) (runs : List Run) (a : Addr) → is_own made runs a ≡ true → OwnedBy made runs a
 owned-by made runs a e = elim (either_test _ _ e) [
   | inl of_made ↦ inl (any-has (λ (r : Made). is_word_of r.unit (block_units r.class) a) made of_made)
@@ -67,18 +70,23 @@ module _ (made : List Made) (runs : List Run) where
     | inr t ↦ absurd (true≢false (sym t.2 ∙ not_result (t.0).unit (block_units (t.0).class)))
   ]
 
+  -- a state word is own only where the hand makes the record
   pub state-own : (u : ℕ) → is_own made runs (state u) ≡ true → 1 ≤ made_at u made
   state-own u e = header-own u (state u) (λ x units. refl) (λ x units. refl) e
 
+  -- a reference word is own only where the hand makes the record
   pub refs-own : (u : ℕ) → is_own made runs (refs u) ≡ true → 1 ≤ made_at u made
   refs-own u e = header-own u (refs u) (λ x units. refl) (λ x units. refl) e
 
+  -- a head is own only where the hand makes the record
   pub head-own : (u : ℕ) → is_own made runs (head u) ≡ true → 1 ≤ made_at u made
   head-own u e = header-own u (head u) (λ x units. refl) (λ x units. refl) e
 
+  -- a next word is own only where the hand makes the record
   pub next-own : (u : ℕ) → is_own made runs (next u) ≡ true → 1 ≤ made_at u made
   next-own u e = header-own u (next u) (λ x units. refl) (λ x units. refl) e
 
+  -- a task word is own only where the hand makes the record
   pub task-own : (u : ℕ) → is_own made runs (task u) ≡ true → 1 ≤ made_at u made
   task-own u e = header-own u (task u) (λ x units. refl) (λ x units. refl) e
 
@@ -88,14 +96,17 @@ module _ (m : Mem) (u n : ℕ) where
   words-state (state w) other = ap (λ (b : Bool). cond b n (m (state w))) (ne_eqb u w (λ e. other w refl (sym e)))
   words-state a other = refl
 
+  -- words of records stay where the references of another unit are written
   pub words-refs : (a : Addr) → ((w : ℕ) → a ≡ refs w → w ≢ u) → record_words (put m (refs u) n) a ≡ record_words m a
   words-refs (refs w) other = ap (λ (b : Bool). cond b n (m (refs w))) (ne_eqb u w (λ e. other w refl (sym e)))
   words-refs a other = refl
 
+  -- words of records stay where the head of another unit is written
   pub words-head : (a : Addr) → ((w : ℕ) → a ≡ head w → w ≢ u) → record_words (put m (head u) n) a ≡ record_words m a
   words-head (head w) other = ap (λ (b : Bool). cond b n (m (head w))) (ne_eqb u w (λ e. other w refl (sym e)))
   words-head a other = refl
 
+  -- words of records stay where the next word of another unit is written
   pub words-next : (a : Addr) → ((w : ℕ) → a ≡ next w → w ≢ u) → record_words (put m (next u) n) a ≡ record_words m a
   words-next (next w) other = ap (λ (b : Bool). cond b n (m (next w))) (ne_eqb u w (λ e. other w refl (sym e)))
   words-next a other = refl

@@ -82,6 +82,7 @@ module _ (g : Setup) (m : Mem) (vs : List View) (s : Story) (l : AllSay g s m vs
       ∙ total-same (λ (v : View). times u (seen references v).done) (λ (v : View). done_at u v.done) vs (λ k v at. times-done u v.done)
       ∙ sym (total-map (λ (h : Hands). done_at u h.done) (seen own) vs)
 
+  -- a unit is counted in a phase once at most
   pub in-few : (phase u : ℕ) → is_in g.plan (λ w. m (state w)) phase u ≤ 1
   in-few phase u = by (nat_lt u (units_of g.plan))
     where

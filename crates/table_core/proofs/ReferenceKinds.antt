@@ -136,6 +136,7 @@ module _ (g : Setup) (id : ℕ) (v : View) where
       abbrev after_more : View
       after_more = saw (refs u) (counts u) (referred u v)
 
+      -- each part of the rule holds after one more reference
       pub more-parts : (q : Part) → Says g q s (put m (refs u) n) (map (seen q) (slice_set vs id after_more))
       more-parts references = refers u n near is some after_more
           (λ x ne. (omega (arith, one-apart u x (λ e. ne (sym e))), refl, refl))
@@ -157,6 +158,7 @@ module _ (g : Setup) (id : ℕ) (v : View) where
       abbrev after_less : View
       after_less = saw (refs u) (counts u) (lessened u (counts u) v)
 
+      -- each part of the rule holds after one reference less
       pub less-parts : (q : Part) → Says g q s (put m (refs u) n) (map (seen q) (slice_set vs id after_less))
       less-parts references =
           let is = is-referred u near (omega (arith, has)) in let some = counted-some u near (omega (arith, has)) in
@@ -185,6 +187,7 @@ module _ (g : Setup) (id : ℕ) (v : View) where
       done_some : 1 ≤ times u v.futures + done_at u v.done
       done_some = omega (arith, subst (λ (w : ℕ). 1 ≤ done_at w v.done) unit_is (done-counts v.done d has))
 
+      -- each part of the rule holds after a done record was given up
       pub give_up-parts : (q : Part) → Says g q s (put m (refs u) n) (map (seen q) (slice_set vs id after_give_up))
       give_up-parts references =
           let is = is-referred u near done_some in let some = counted-some u near done_some in

@@ -74,6 +74,7 @@ word-last : (asked : List RootSays) (says : RootSays) → word_at (asked ++ says
 word-last [] says = refl
 word-last (s ∷ ss) says = word-last ss says
 
+-- the word of a root that was not asked for is 0
 pub word-behind : (asked : List RootSays) (r : ℕ) → length asked ≤ r → word_at asked r ≡ 0
 word-behind [] r far = refl
 word-behind (s ∷ ss) zero far = absurd (omega (arith, far))
@@ -232,6 +233,7 @@ module _ (g : Setup) (id : ℕ) (v : View) where
       longer : length (asked ++ says ∷ []) ≡ length asked + 1
       longer = length-append asked (says ∷ [])
 
+      -- the root words say what the pass with the turn knows, after a root was named
       pub name-roots : RootsSound g.checked g.plan roots' (slice_set turns id (seen roots after_name))
       name-roots = record {
         one = omega (arith, total-set (λ (t : Turn). length t.turn) turns id (seen roots v) (seen roots after_name) turn_at, was.one, ap (λ (t : List (List RootSays)). length (turned says t)) has_turn, ap length has_turn);

@@ -59,6 +59,7 @@ may_step g slots id me a f told there built keeps s holds homes at small =
       (subst (λ (n : ℕ). told n new) read step.2, subst (λ (n : ℕ). Stepped a n me.0 new) read step.3, refl),
     )
 
+-- a kind of step that keeps the rule over addresses is allowed at the word of its address
 pub allows : (g key : Setup) (slots id word : ℕ) (me : Me (Unit {0}) View) (a : Addr) (f : ℕ → ℕ) (told : ℕ → View → Type 0)
     → key ≡ g → word ≡ address g.plan a → is_there g.plan a ≡ true → is_built a ≡ true → Keeps g id me.0 a f told → Allows (holds_at key) slots id me word f (Tells a told me)
 allows g key slots id word me a f told keyed placed there built keeps =

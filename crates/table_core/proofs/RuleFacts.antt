@@ -176,14 +176,18 @@ module _ (g : Setup) (ws : List ℕ) (vs : List View) (holds : Holds g ws vs) wh
           λ b small. omega (arith, kept.once c b small, cond-at c c (bit_in m i b) refl, owned-held g.plan supers states hands i c b kept.class_fits, none),
         )
 
+-- two blocks of passes share no unit
 pub blocks_are_apart : BlocksAreApart
 blocks_are_apart g ws vs holds = apart_from g ws vs holds
 
+-- two records share no unit
 pub records_are_apart : RecordsAreApart
 records_are_apart g ws vs holds = records_apart g ws vs holds
 
+-- a block of a pass and the block of a record share no unit
 pub records_and_blocks_are_apart : RecordsAndBlocksAreApart
 records_and_blocks_are_apart g ws vs holds = records_and_blocks g ws vs holds
 
+-- a pool of which nobody has anything is empty
 pub unused_pool_is_empty : UnusedPoolIsEmpty
 unused_pool_is_empty g ws vs holds nothing free = empty_at g ws vs holds nothing free

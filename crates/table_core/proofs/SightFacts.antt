@@ -34,6 +34,7 @@ pub record SeenStays (heads heads' tasks tasks' states states' : ℕ → ℕ) (u
   pub done_same : phase_of (states u) ≡ 5 → states' u ≡ states u
 
 module _ (heads heads' tasks tasks' states states' : ℕ → ℕ) where
+  -- what was seen of a record is so still where its words stay
   pub still-stays : (s : Sight) → SeenStays heads heads' tasks tasks' states states' (seen_at s) → StillSo heads tasks states s → StillSo heads' tasks' states' s
   still-stays (SawHead u h) stays so = later-later h (heads u) (heads' u) so stays.later
   still-stays (SawTask u t) stays so = stays.task_same ∙ so
@@ -47,6 +48,7 @@ module _ (heads heads' tasks tasks' states states' : ℕ → ℕ) where
 
 -- what was seen stands while the references stay
 module _ (heads tasks states : ℕ → ℕ) where
+  -- what is known under references is known under more references
   pub known-more : (futures more : List ℕ) (ss : List Sight) → ((u : ℕ) → 1 ≤ times u futures → 1 ≤ times u more)
       → IsKnown heads tasks states (record { futures = futures; sights = ss }) → IsKnown heads tasks states (record { futures = more; sights = ss })
   known-more futures more ss longer was k s at = let t = was k s at in (longer (seen_at s) t.0, t.1)
@@ -94,6 +96,7 @@ module _ (g : Setup) (m : Mem) (vs : List View) (s : Story) (l : AllSay g s m vs
   abbrev bags : List Bag
   bags = map (seen references) vs
 
+  -- a hand with a reference to a unit has one to a record that is there
   pub sighted : (k : ℕ) (x : Knows) → At (map (seen sights) vs) k x → (u : ℕ) → 1 ≤ times u x.futures → (u < units_of g.plan) × (is_record (m (state u)) ≡ true)
   sighted k x at u has = by (cases_lt u (units_of g.plan))
     where

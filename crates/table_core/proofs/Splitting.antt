@@ -60,6 +60,7 @@ module _ (g : Setup) (m : Mem) (vs : List View) (s : Story) (l : AllSay g s m vs
   look-split mine mine' x fewer = look-kept g.plan (λ i. m (super i)) (λ i. m (super i)) (map (seen looks) vs) (both looks) mine mine' x (omega arith)
       (omega (arith, fewer x.superblock (class_of x.word), sum-same looks (λ (u : Looked). at_place x.superblock (class_of x.word) u.wins) refl refl))
 
+  -- each part of the rule holds of both halves
   pub split_parts : (q : Part) → Says g q s m (both q)
   split_parts pool = pool-same g.plan (λ i. m (super i)) (bit_in m) (λ u. m (state u)) (map (seen pool) vs) (both pool) (l pool)
       (λ i c. sum-same pool (places g.plan i c) refl refl) (λ i c b. sum-same pool (owns g.plan i c b) refl refl)
@@ -116,6 +117,7 @@ module _ (g : Setup) (m : Mem) (vs : List View) (s : Story) (l : AllSay g s m vs
       (record { done_closed = each-none _; chains = each-none _; numbers = each-none _; linked = each-none _ }))
   split_parts sights = each-both sights (IsKnown (λ u. m (head u)) (λ u. m (task u)) (λ u. m (state u))) (l sights) (l sights id (seen sights v) (at_map (seen sights) vs id v at)) (each-none _)
 
+  -- each part holds where the list of views has the two halves
   pub split-says : (q : Part) → Says g q s m (map (seen q) (slice_set vs id (kept_half v) ++ idle_half v ∷ []))
   split-says q = subst (Says g q s m) (sym (map-append (seen q) (slice_set vs id (kept_half v)) (idle_half v ∷ []) ∙ ap (λ (xs : List (Seen q)). xs ++ seen q (idle_half v) ∷ []) (map-set (seen q) vs id (kept_half v)))) (split_parts q)
 

@@ -222,10 +222,12 @@ module _ (g : Setup) (m : Mem) (vs : List View) (sound : WaitSound (λ x. m (sta
     one-place (InChain p c k) (InList u' k') is is' = absurd (omega (arith, one, list-counts u' k' is', chain-counts p c k is))
     one-place (InChain p c k) (InHand p' k') is is' = absurd (omega (arith, one, hand-counts p' k' is', chain-counts p c k is))
 
+-- a record that waits stands in one place
 pub waiters_stand_once : WaitersStandOnce
 waiters_stand_once g ws vs holds w near waiting =
     let m : Mem = mem_of g.plan ws in let t = place g m vs (holds.1.1 waits) w near waiting in
     (t.0, t.1, λ q is. one-place g m vs (holds.1.1 waits) w near waiting t.0 q t.1 is)
 
+-- a record that does not wait stands in none
 pub only_waiters_stand : OnlyWaitersStand
 only_waiters_stand g ws vs holds w p is = only-waits g (mem_of g.plan ws) vs (holds.1.1 waits) w p is

@@ -31,6 +31,7 @@ module _ (states heads nexts : ℕ → ℕ) where
     pub numbers : Each (λ x. x.number ≡ number_of (states x.unit)) v.waiting
     pub linked : Each (λ x. IsLinked nexts x.unit x.linked) v.waiting
 
+  -- each hand is sound where all hands are sound together
   pub wait-hands : (g : Plan) (vs : List Waits) → WaitSound states heads nexts g vs → Each IsWaitHand vs
   wait-hands g vs was k v at = record { done_closed = was.done_closed k v at; chains = was.chains k v at; numbers = was.numbers k v at; linked = was.linked k v at }
 
@@ -98,9 +99,11 @@ module _ (states heads nexts : ℕ → ℕ) where
     pub standing : (w : ℕ) → 1 ≤ stands states heads nexts g vs w → (w < units_of g) × (phase_of (states w) ≡ 2)
     standing w some = in-phase g (λ i. 0) states (λ a. 0) 2 w (omega (arith, some, was.once w))
 
+    -- a waiter of a hand is a record in range that waits
     pub waiter-waits : (k : ℕ) (v : Waits) → At vs k v → (w : ℕ) → 1 ≤ waits_at w v.waiting → (w < units_of g) × (phase_of (states w) ≡ 2)
     waiter-waits k v at w some = standing w (omega (arith, some, total-member (λ (x : Waits). waits_at w x.waiting) vs k v at))
 
+    -- a member of a chain is a record in range that waits
     pub chain-waits : (k : ℕ) (v : Waits) → At vs k v → (w : ℕ) → 1 ≤ chains_at w v.chains → (w < units_of g) × (phase_of (states w) ≡ 2)
     chain-waits k v at w some = standing w (omega (arith, some, total-member (λ (x : Waits). chains_at w x.chains) vs k v at))
 
@@ -119,6 +122,7 @@ module _ (g : Plan) (states states' heads heads' nexts : ℕ → ℕ) (vs : List
       by false e = ap (λ (b : Bool). cond b (chained nexts (link_of (heads' u)) (length_of (heads' u))) []) (opens u ∙ e)
           ∙ sym (ap (λ (b : Bool). cond b (chained nexts (link_of (heads u)) (length_of (heads u))) []) e)
 
+  -- wait lists are sound still where what they read stays
   pub waits-kept : WaitSound states' heads' nexts g vs
   waits-kept = waits-from states' heads' nexts g vs
       (λ u near is. opens u ∙ was.live_open u near (lives u near is))

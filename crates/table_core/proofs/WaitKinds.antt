@@ -83,6 +83,7 @@ module _ (g : Setup) (id : ℕ) (v : View) where
       abbrev after_see : View
       after_see = saw (head u) (heads u) (saw_head u (heads u) v)
 
+      -- each part of the rule holds after a head was seen
       pub see-parts : (q : Part) → Says g q s m (map (seen q) (slice_set vs id after_see))
       see-parts sights = moves g vs id v at sights s m after_see
           (each-set _ (map (seen sights) vs) id (seen sights after_see) (l sights)
@@ -108,6 +109,7 @@ module _ (g : Setup) (id : ℕ) (v : View) where
           let made = made-phase g.plan (λ i. m (super i)) states (record_words m) (map (seen own) vs) (l own) k h there w (next-own h.made h.runs w mine) in
           omega (arith, made.1, waiter-stands states heads nexts g.plan waiting_vs (l waits) id (seen waits v) waits_at_id w waits-here)
 
+      -- each part of the rule holds after a waiter was linked
       pub link-parts : (q : Part) → Says g q s (put m (next w) word) (map (seen q) (slice_set vs id after_link))
       link-parts waits = moves g vs id v at waits s (put m (next w) word) after_link
           (waits-linked states heads nexts g.plan waiting_vs (l waits) id (seen waits v) waits_at_id w seen_head waits-here (λ y. put m (next w) word (next y)) (next-here m w word) (next-other m w word))
@@ -122,6 +124,7 @@ module _ (g : Setup) (id : ℕ) (v : View) where
       abbrev after_unchain : View
       after_unchain = saw (next u) (nexts u) (unchained u (number_of (states u)) rest v)
 
+      -- each part of the rule holds after the first of a chain was taken
       pub unchain-parts : (q : Part) → Says g q s m (map (seen q) (slice_set vs id after_unchain))
       unchain-parts waits = moves g vs id v at waits s m after_unchain
           (waits-unchained states heads nexts g.plan waiting_vs (l waits) id (seen waits v) waits_at_id u rest has)

@@ -61,6 +61,7 @@ module _ (states heads nexts : ℕ → ℕ) (g : Plan) (vs : List Waits) (sound 
   pub list-length : (u : ℕ) → is_open states heads u ≡ true → length (listed states heads nexts u) ≡ length_of (heads u)
   list-length u is = ap (λ (b : Bool). length (cond b (chained nexts (link_of (heads u)) (length_of (heads u))) [])) is ∙ chained-length nexts (link_of (heads u)) (length_of (heads u))
 
+  -- an open list is no longer than there are units
   pub length-few : (u : ℕ) → u < units_of g → is_open states heads u ≡ true → length_of (heads u) ≤ units_of g
   length-few u near is = omega (arith, list-length u is, few-length (listed states heads nexts u) (units_of g) (list-few u near))
 
@@ -69,15 +70,19 @@ module _ (states heads nexts : ℕ → ℕ) (g : Plan) (vs : List Waits) (sound 
     waits_there : 1 ≤ total (λ (v : Waits). waits_at w v.waiting) vs
     waits_there = omega (arith, some, total-member (λ (v : Waits). waits_at w v.waiting) vs id h at)
 
+    -- the waiter is a record in range that waits, and stands in one place
     pub waiter-stands : (w < units_of g) × (phase_of (states w) ≡ 2) × (stands states heads nexts g vs w ≡ 1)
     waiter-stands = stands-once w (omega (arith, waits_there))
 
+    -- the hand has the waiter once
     pub waiter-alone : waits_at w h.waiting ≡ 1
     waiter-alone = omega (arith, some, waiter-stands.2, total-member (λ (v : Waits). waits_at w v.waiting) vs id h at)
 
+    -- the waiter stands in no list
     pub not-listed : (u : ℕ) → u < units_of g → times w (listed states heads nexts u) ≡ 0
     not-listed u near = omega (arith, waits_there, waiter-stands.2, below-member (λ x. times w (listed states heads nexts x)) (units_of g) u near)
 
+    -- the waiter stands in no chain
     pub not-chained : (k : ℕ) (x : Waits) → At vs k x → (j : ℕ) (c : List ℕ) → At x.chains j c → times w c ≡ 0
     not-chained k x there j c there' = omega (
       arith,
@@ -87,6 +92,7 @@ module _ (states heads nexts : ℕ → ℕ) (g : Plan) (vs : List Waits) (sound 
       total-member (times w) x.chains j c there',
     )
 
+    -- no other hand has the waiter
     pub no-other : (k : ℕ) (x : Waits) → k ≢ id → At vs k x → waits_at w x.waiting ≡ 0
     no-other k x ne there = omega (arith, some, waiter-stands.2, total-two_members (λ (v : Waits). waits_at w v.waiting) vs k id x h ne there at)
 
@@ -102,6 +108,7 @@ module _ (states heads nexts : ℕ → ℕ) (g : Plan) (vs : List Waits) (sound 
     not-in : (l : List ℕ) → times w l ≡ 0 → (x : ℕ) → 1 ≤ times x l → nexts' x ≡ nexts x
     not-in l none x in_it = others x (member-apart w x l none in_it)
 
+    -- each list is what it was after the link
     pub lists-stay : (u : ℕ) → u < units_of g → listed states heads nexts' u ≡ listed states heads nexts u
     lists-stay u near = by (is_open states heads u) (not-listed id h at w some u near)
       where
@@ -113,6 +120,7 @@ module _ (states heads nexts : ℕ → ℕ) (g : Plan) (vs : List Waits) (sound 
     chains-follow : Each (λ (v : Waits). Each (Follows nexts') v.chains) vs
     chains-follow k x there j c there' = follows-same nexts nexts' c (not-in c (not-chained id h at w some k x there j c there')) (sound.chains k x there j c there')
 
+    -- wait lists are sound after a link
     pub waits-linked : WaitSound states heads nexts' g linked_vs
     waits-linked = record {
       live_open = sound.live_open;
@@ -146,6 +154,7 @@ module _ (states heads nexts : ℕ → ℕ) (g : Plan) (vs : List Waits) (sound 
     open-other : (y : ℕ) → y ≢ u → is_open states heads' y ≡ is_open states heads y
     open-other y ne = ap (λ (n : ℕ). is_record (states y) && not (n == closed_word)) (others y ne)
 
+    -- the lists of other records stay after a push
     pub list-other : (y : ℕ) → y ≢ u → listed states heads' nexts y ≡ listed states heads nexts y
     list-other y ne = ap (λ (n : ℕ). cond (is_record (states y) && not (n == closed_word)) (chained nexts (link_of n) (length_of n)) []) (others y ne)
 
@@ -186,6 +195,7 @@ module _ (states heads nexts : ℕ → ℕ) (g : Plan) (vs : List Waits) (sound 
           back : w + 1 - 1 ≡ w
           back = omega arith
 
+      -- wait lists are sound after a push
       pub waits-joined : WaitSound states heads' nexts g joined_vs
       waits-joined = record {
         live_open = λ y low live. open-same y ∙ sound.live_open y low live;
@@ -235,6 +245,7 @@ module _ (states heads nexts : ℕ → ℕ) (g : Plan) (vs : List Waits) (sound 
       abbrev closed_vs : List Waits
       closed_vs = slice_set vs id hand_closed
 
+      -- the list was open
       pub was-open : is_open states heads u ≡ true
       was-open = subst (λ (z : ℕ). is_open states heads z ≡ true) unit_is (sound.done_closed id h at has.0 d has.1 ∙ ap not not_closed)
 
@@ -255,6 +266,7 @@ module _ (states heads nexts : ℕ → ℕ) (g : Plan) (vs : List Waits) (sound 
       still-open : (y : ℕ) → is_open states heads' y ≡ true → y ≢ u
       still-open y is e = true≢false (sym is ∙ ap (is_open states heads') e ∙ now-closed)
 
+      -- wait lists are sound after a list was closed
       pub waits-closed : WaitSound states heads' nexts g closed_vs
       waits-closed = record {
         live_open = λ y low live. open-other y (λ e. not_live (subst (λ (z : ℕ). is_live (states z) ≡ true) e live)) ∙ sound.live_open y low live;
@@ -315,9 +327,11 @@ module _ (states heads nexts : ℕ → ℕ) (g : Plan) (vs : List Waits) (sound 
         by (inl e) = same_tail (sym has'.1 ∙ ap (slice_get h.chains) e ∙ has.1)
         by (inr ne) = absurd (in_both has'.0 has.0 ne has'.1 has.1)
 
+    -- the next word of the first links to the rest of the chain
     pub next-links : nexts u ≡ link_to rest
     next-links = (sound.chains id h at has.0 (u ∷ rest) has.1).0
 
+    -- wait lists are sound after the first of a chain was taken
     pub waits-unchained : WaitSound states heads nexts g (slice_set vs id hand_unchained)
     waits-unchained = record {
       live_open = sound.live_open;
@@ -379,6 +393,7 @@ module _ (states heads nexts : ℕ → ℕ) (g : Plan) (vs : List Waits) (sound 
     waiters-numbered : Each (λ (v : Waits). Each (λ (x : Waiter). x.number ≡ number_of (states' x.unit)) v.waiting) vs
     waiters-numbered k z there j x there' = sound.numbers k z there j x there' ∙ ap number_of (sym (others x.unit (waiter-other k z there j x there')))
 
+    -- wait lists are sound after a record finished
     pub waits-finished : WaitSound states' heads nexts g (slice_set vs id hand_finished)
     waits-finished = record {
       live_open = λ y low live. opens-same y ∙ sound.live_open y low (ap is_live (sym (others y (λ e. not_live (subst (λ (z : ℕ). is_live (states' z) ≡ true) e live)))) ∙ live);

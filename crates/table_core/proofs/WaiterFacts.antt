@@ -20,6 +20,7 @@ waits-dropped w y l x has e = total-dropped (λ (z : Waiter). one_if (z.unit == 
 
 -- a waiter that is linked stays in its place
 module _ (w head : ℕ) where
+  -- a link leaves the waiters that a hand has
   pub waits-link_in : (y : ℕ) (l : List Waiter) → waits_at y (link_in w head l) ≡ waits_at y l
   waits-link_in y [] = refl
   waits-link_in y (x ∷ l) = by (is_waiter_at w x) (waits-link_in y l)
@@ -29,6 +30,7 @@ module _ (w head : ℕ) where
       by true rest = refl
       by false rest = omega (arith, rest)
 
+  -- a link leaves the number of waiters
   pub length-link_in : (l : List Waiter) → length (link_in w head l) ≡ length l
   length-link_in [] = refl
   length-link_in (x ∷ l) = by (is_waiter_at w x) (length-link_in l)
@@ -37,6 +39,7 @@ module _ (w head : ℕ) where
       by true rest = refl
       by false rest = ap suc rest
 
+  -- what does not read the link holds of each waiter after a link
   pub each-link_in : (P : Waiter → Type 0) → ((x : Waiter) → P x → P (record x { linked = Some head })) → (l : List Waiter) → Each P l → Each P (link_in w head l)
   each-link_in P links [] all = all
   each-link_in P links (x ∷ l) all = by (is_waiter_at w x) (each-link_in P links l (each-tail P x l all))
@@ -55,11 +58,13 @@ module _ (nexts nexts' : ℕ → ℕ) (w head : ℕ) (others : (y : ℕ) → y �
   abbrev Links : (ℕ → ℕ) → Waiter → Type 0
   Links words x = IsLinked words x.unit x.linked
 
+  -- links say what the next words say, where the waiter is not of this hand
   pub linked-apart : (l : List Waiter) → waits_at w l ≡ 0 → Each (Links nexts) l → Each (Links nexts') l
   linked-apart l none all k x at =
       linked-same nexts nexts' x.unit x.linked
       (others x.unit (λ e. omega (arith, none, subst (λ (u : ℕ). 1 ≤ waits_at u l) e (waits-counts l x (k, at))))) (all k x at)
 
+  -- links say what the next words say, after the waiter of this hand was linked
   pub linked-here : nexts' w ≡ link_of head → (l : List Waiter) → waits_at w l ≤ 1 → Each (Links nexts) l → Each (Links nexts') (link_in w head l)
   linked-here here [] few all = λ k x at. absurd (nothing k x at)
     where
@@ -77,6 +82,7 @@ module _ (nexts nexts' : ℕ → ℕ) (w head : ℕ) (others : (y : ℕ) → y �
 
 -- a done record whose list is closed stays in its place
 module _ (u : ℕ) where
+  -- a close leaves the done records that a hand has
   pub done-close_in : (y : ℕ) (l : List Done) → done_at y (close_in u l) ≡ done_at y l
   done-close_in y [] = refl
   done-close_in y (d ∷ l) = by (d.unit == u) (done-close_in y l)
@@ -85,6 +91,7 @@ module _ (u : ℕ) where
       by true rest = refl
       by false rest = omega (arith, rest)
 
+  -- a close leaves the units of done records
   pub units-close_in : (l : List Done) → map (λ (d : Done). d.unit) (close_in u l) ≡ map (λ (d : Done). d.unit) l
   units-close_in [] = refl
   units-close_in (d ∷ l) = by (d.unit == u) (units-close_in l)
@@ -94,6 +101,7 @@ module _ (u : ℕ) where
       by true rest = refl
       by false rest = ap (λ (us : List ℕ). d.unit ∷ us) rest
 
+  -- a close leaves the number of done records
   pub length-close_in : (l : List Done) → length (close_in u l) ≡ length l
   length-close_in [] = refl
   length-close_in (d ∷ l) = by (d.unit == u) (length-close_in l)
@@ -133,9 +141,11 @@ module _ (u : ℕ) (was now : ℕ → Bool) (closed : now u ≡ false) (others :
   abbrev Tells : (ℕ → Bool) → Done → Type 0
   Tells test d = test d.unit ≡ not d.closed
 
+  -- what heads tell holds of done records, where the closed one is not of this hand
   pub closed-apart : (l : List Done) → done_at u l ≡ 0 → Each (Tells was) l → Each (Tells now) l
   closed-apart l none all k d at = others d.unit (λ e. omega (arith, none, total-has (λ (x : Done). one_if (x.unit == u)) l d (k, at), ap one_if (eq-eqb d.unit u e))) ∙ all k d at
 
+  -- what heads tell holds of done records, after that of this hand was closed
   pub closed-here : (l : List Done) → done_at u l ≤ 1 → Each (Tells was) l → Each (Tells now) (close_in u l)
   closed-here [] few all = λ k x at. absurd (nothing k x at)
     where
@@ -154,10 +164,12 @@ pub chains-with : (y : ℕ) (c : List ℕ) (cs : List (List ℕ)) → chains_at 
 chains-with y [] cs = omega arith
 chains-with y (u ∷ us) cs = omega arith
 
+-- what holds of a chain and of the others holds of all, with the empty ones left out
 pub each-with : (P : List ℕ → Type 0) (c : List ℕ) (cs : List (List ℕ)) → P c → Each P cs → Each P (with_chain c cs)
 each-with P [] cs here all = all
 each-with P (u ∷ us) cs here all = each-cons P (u ∷ us) cs here all
 
+-- one chain more makes at most one more
 pub length-with : (c : List ℕ) (cs : List (List ℕ)) → length (with_chain c cs) ≤ 1 + length cs
 length-with [] cs = omega arith
 length-with (u ∷ us) cs = omega arith
@@ -179,5 +191,6 @@ list-passes (x ∷ xs) = and_from (x == x) (same_list xs xs) (eq-eqb x x refl) (
 pub chains-dropped : (y : ℕ) (c : List ℕ) (cs : List (List ℕ)) → Has c cs → chains_at y (dropped (same_list c) cs) + times y c ≡ chains_at y cs
 chains-dropped y c cs has = dropped-one (same_list c) c (λ d e. list-only c d e) (list-passes c) (times y) cs has
 
+-- without one of its chains a hand has one fewer
 pub length-chains_dropped : (c : List ℕ) (cs : List (List ℕ)) → Has c cs → length (dropped (same_list c) cs) + 1 ≡ length cs
 length-chains_dropped c cs has = length-dropped-has (same_list c) cs c has (list-passes c)

@@ -74,3 +74,7 @@ finished u c v = record v {
   known = forget_words u (block_units c) v.known;
   done = new_done u ∷ v.done;
 }
+
+-- the waiter at u is ready, and in the hand no more
+abbrev pub readied : ℕ → View → View
+readied u v = record v { waiting = dropped (is_waiter_at u) v.waiting }
