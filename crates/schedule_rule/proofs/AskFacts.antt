@@ -50,4 +50,6 @@ module _ (calls : List Accepted) (a : Accepted) where
       asker = λ k d at. let t = was.asker k d at in (asker-stays d.number d.asker t.0, record-stays d (drawn k d at) t.1);
       made = was.made;
       unplaced = λ k r at. unplaced-stays h.drawn r (runs k r at) (was.unplaced k r at);
+      one = was.one;
+      asked = λ k r at e. let t = was.asked k r at e in (t.0, t.1, next-stays t.0 r (drawn t.1.0 t.0 t.1.1) (runs k r at) t.2);
     }

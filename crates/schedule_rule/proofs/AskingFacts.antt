@@ -1,5 +1,5 @@
 -- A running record asks for one number more: nothing else is of its task.
-use Rattle.std.proofs.Common.{◌≡◌, ◌≢◌, ◌∙◌, inl, inr, ℕ, ◌+◌, ◌<◌, ◌≤◌, ◌==◌, Bool, true, false, List, [], ◌∷◌, map, refl, sym, ap, subst, true≢false, arith}
+use Rattle.std.proofs.Common.{◌≡◌, ◌≢◌, ◌∙◌, ◌⊎◌, inl, inr, ℕ, suc, ◌+◌, ◌<◌, ◌≤◌, ◌==◌, Bool, true, false, List, [], ◌∷◌, map, refl, sym, ap, subst, true≢false, arith}
 use Rattle.std.specs.Prelude.{slice_set, slice_get, cond}
 use Rattle.std.proofs.lemmas.Bool.{cases_eq, eq-eqb, ne_eqb}
 use Rattle.record_core.specs.Sums.{total}
@@ -25,10 +25,10 @@ use Rattle.table_core.proofs.ReferenceBound.{in-few}
 use Rattle.schedule_rule.specs.Calls.{task_of, IsTaskOf, begun}
 use Rattle.schedule_rule.specs.Rows.{drawn_at}
 use Rattle.schedule_rule.specs.Numbers.{saved_at, in_hands, IsRun}
-use Rattle.schedule_rule.specs.Askers.{Asks, asks_for, IsAsker, IsNextOf, IsFirstOf, IsForRecord, AskedSound}
+use Rattle.schedule_rule.specs.Askers.{Asks, asks_for, IsAsker, IsNextOf, HasNext, IsFirstOf, IsForRecord, AskedSound}
 use Rattle.schedule_rule.specs.DrawViews.{changed}
 use Rattle.schedule_rule.specs.Parts.{names, askers, owners, running, seen, AllSay}
-use Rattle.schedule_rule.proofs.AskFacts.{asker-stays, record-stays, unplaced-stays}
+use Rattle.schedule_rule.proofs.AskFacts.{asker-stays, record-stays, next-stays, unplaced-stays}
 use Rattle.schedule_rule.proofs.ChangedFacts.{changed-one, IsRunAs}
 use Rattle.schedule_rule.proofs.DrawKinds.{drawn-numbers, run-numbers}
 use Rattle.schedule_rule.proofs.StateFacts.{saved-record}
@@ -190,13 +190,41 @@ module _ (g : Setup) (id : ℕ) (v : View) (m : Mem) (vs : List View) (s : Story
             )
       ]
 
-      pub asked-by_run : IsForRecord calls asks_now new_drawn → ((d : Drawn) → Has d v.drawn → (y : Made) → Has y v.made → IsFirstOf calls d y → Has y made)
+      -- no run has more than one
+      one-now : r.unplaced ≡ 0 → Each (λ (y : Run). y.unplaced ≤ 1) runs
+      one-now none k y there = elim (set_cases v.runs has.0 k r' y there) [
+        | inl t ↦ subst (λ (z : Run). z.unplaced ≤ 1) (sym t.1) (omega (arith, asks, none))
+        | inr t ↦ was.one k y t.1
+      ]
+
+      -- the next number that a run had drawn is drawn still
+      next-drawn : (k : ℕ) (y : Run) → At v.runs k y → y.asked ≡ true → HasNext calls (new_drawn ∷ v.drawn) y
+      next-drawn k y there e = let t = was.asked k y there e in (
+        t.0,
+        (suc t.1.0, t.1.1),
+        next-stays s.calls a t.0 y (drawn-numbers g id v m vs s l at id v at t.1.0 t.0 t.1.1) (run-numbers g id v m vs s l at id v at k y there) t.2,
+      )
+
+      -- a run that asked for its next number has it drawn
+      asked-now : (r'.asked ≡ true → (r.asked ≡ true) ⊎ IsNextOf calls new_drawn r') → Each (λ (y : Run). y.asked ≡ true → HasNext calls (new_drawn ∷ v.drawn) y) runs
+      asked-now again k y there e = elim (set_cases v.runs has.0 k r' y there) [
+        | inl t ↦ subst (HasNext calls (new_drawn ∷ v.drawn)) (sym t.1) (by (again (sym (ap (λ (z : Run). z.asked) t.1) ∙ e)))
+        | inr t ↦ next-drawn k y t.1 e
+      ]
+        where
+          by : (r.asked ≡ true) ⊎ IsNextOf calls new_drawn r' → HasNext calls (new_drawn ∷ v.drawn) r'
+          by (inl before) = let t = next-drawn has.0 r has.1 before in (t.0, t.1, next-now t.0 t.2)
+          by (inr is) = (new_drawn, (0, refl), is)
+
+      pub asked-by_run : r.unplaced ≡ 0 → (r'.asked ≡ true → (r.asked ≡ true) ⊎ IsNextOf calls new_drawn r') → IsForRecord calls asks_now new_drawn → ((d : Drawn) → Has d v.drawn → (y : Made) → Has y v.made → IsFirstOf calls d y → Has y made)
           → Each (λ (y : Made). y.number ≢ 0 → (d : Drawn) × Has d (new_drawn ∷ v.drawn) × (d.unit ≡ y.unit) × (d.number ≡ y.number)) made → AskedSound calls g.plan asks_now
-      asked-by_run for_new kept mades = record {
+      asked-by_run none again for_new kept mades = record {
         asker = each-cons _ new_drawn v.drawn ((r', has_now, same_task), for_new) (λ k d there. let t = was.asker k d there in (
           asker-now d.number d.asker (asker-stays s.calls a g.plan (seen askers v) (drawn-numbers g id v m vs s l at id v at) (run-numbers g id v m vs s l at id v at) d.number d.asker t.0),
           record-now kept d (k, there) (record-stays s.calls a g.plan (seen askers v) (drawn-numbers g id v m vs s l at id v at) (run-numbers g id v m vs s l at id v at) d (drawn-numbers g id v m vs s l at id v at k d there) t.1),
         ));
         made = mades;
         unplaced = unplaced-now;
+        one = one-now none;
+        asked = asked-now again;
       }

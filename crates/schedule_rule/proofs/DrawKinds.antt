@@ -1,5 +1,5 @@
 -- A number is drawn within the limit: what keeps the rule whoever asks. Its call is the story's next one.
-use Rattle.std.proofs.Common.{◌≡◌, ◌≢◌, ◌∙◌, ◌⊎◌, inl, inr, ℕ, ◌+◌, ◌%◌, ◌^◌, ◌<◌, ◌≤◌, ◌==◌, Bool, true, false, cond, Option, Some, List, map, length, refl, sym, ap, subst, arith}
+use Rattle.std.proofs.Common.{◌≡◌, ◌≢◌, ◌∙◌, ◌⊎◌, inl, inr, ℕ, ◌+◌, ◌%◌, ◌^◌, ◌<◌, ◌≤◌, ◌==◌, Bool, true, false, cond, Option, Some, List, map, length, refl, sym, ap, subst, arith, ◌∷◌, []}
 use Rattle.std.specs.Prelude.{slice_set, slice_index, IfSome, ◌*◌, ◌||◌}
 use Rattle.std.proofs.lemmas.Bool.{cases_eq, cases_lt, eq-eqb, ne_eqb}
 use Rattle.record_core.specs.Sums.{total, below}
@@ -29,24 +29,25 @@ use Rattle.table_core.specs.WaitLists.{listed, chains_at}
 use Rattle.table_core.specs.Parts.{Part as TablePart, bounds, evers, fits, own, numbers, totals, waits, unnumbered, seen as table_seen, Says as TableSays}
 use Rattle.table_core.specs.declared.setup.Setup.{Setup}
 use Rattle.table_core.specs.declared.view.View.{View}
-use Rattle.table_core.proofs.ListFacts.{at_map, map_at, each-set, each-cons, set_cases, total-has}
+use Rattle.table_core.proofs.ListFacts.{at_map, map_at, each-set, each-cons, set_cases, total-has, each-append, each-none}
 use Rattle.table_core.proofs.OwnFacts.{IsHand, hands-from, own-moved}
 use Rattle.table_core.proofs.WaitFacts.{standing, chain-waits}
 use Rattle.table_core.proofs.Rule.{frames as table_frames, moves as table_moves}
-use Rattle.schedule_rule.specs.Calls.{AtNumber, task_in, task_of, after_of, IsNumber, IsTaskOf, NamesEarlier, CallsSound, IsLast, IsSo, IsComplete, ends_of}
+use Rattle.schedule_rule.specs.Calls.{AtNumber, task_in, task_of, after_of, IsNumber, IsTaskOf, NamesEarlier, CallsSound, IsLast, IsSo, IsComplete, ends_of, Suits}
 use Rattle.schedule_rule.specs.Rows.{Unwritten, RowsSound, RowedSound, row_word, word_of_task, lacking_task, lacking_after}
-use Rattle.schedule_rule.specs.Numbers.{in_hand, Places, saved_at, in_hands, IsRun}
+use Rattle.schedule_rule.specs.Numbers.{in_hand, TasksHeld, saved_at, in_hands, IsRun}
 use Rattle.schedule_rule.specs.Askers.{AskedSound}
-use Rattle.schedule_rule.specs.Counts.{lives_in, class_in}
-use Rattle.schedule_rule.specs.Frames.{BagSound, IsFrameOf}
+use Rattle.schedule_rule.specs.Counts.{lives_in, class_in, CountedSound}
+use Rattle.schedule_rule.specs.Frames.{BagSound, IsFrameOf, IsFormed}
 use Rattle.schedule_rule.specs.RootTasks.{RootTasksSound}
 use Rattle.schedule_rule.specs.DrawViews.{drew, drawn_for}
-use Rattle.schedule_rule.specs.Parts.{Part, draws, names, callers, facts, rows, rowed, places, askers, framed, root_tasks, owners, running, live, classes, behind, bags, quiet, Seen, seen, Says, AllSay}
+use Rattle.schedule_rule.proofs.LimitFacts.{limits-stay}
+use Rattle.schedule_rule.specs.Parts.{Part, draws, names, callers, facts, rows, rowed, places, askers, framed, root_tasks, owners, running, live, classes, behind, bags, quiet, Seen, seen, Says, AllSay, formed, suited, results, begun, counted_lives, limits}
 use Rattle.schedule_rule.proofs.AskFacts.{asked-stays}
 use Rattle.schedule_rule.proofs.ChangedFacts.{AreAs, IsMadeAs, IsRunAs}
 use Rattle.schedule_rule.proofs.RecordKinds.{listed-waits, chained-waits}
 use Rattle.schedule_rule.proofs.Rule.{frames, moves}
-use Rattle.schedule_rule.proofs.StateFacts.{saved-record}
+use Rattle.schedule_rule.proofs.StateFacts.{saved-record, begun-record}
 use Rattle.schedule_rule.proofs.StoryFacts.{more, new, length-more, not-new, number-same, number-here, task-same, after-same, number-stays, new-number, number-from, is-number, is-number-same, is-number-more, no-number, task-stays, task-was, so-stays, ComesNext, calls-more, last-stays, last-new, task-of-number, call-same, frame-stays}
 
 module _ (g : Setup) (id : ℕ) (v : View) (m : Mem) (vs : List View) (s : Story) (l : AllSay g s m vs) (at : At vs id v) where
@@ -93,6 +94,7 @@ module _ (g : Setup) (id : ℕ) (v : View) (m : Mem) (vs : List View) (s : Story
     -- or running record that may still draw is of the call's task
     pub record IsDraw : Type 1 where
       pub names : NamesEarlier s.calls (new s.calls a) a
+      pub suits : Suits g.checked a
       pub next : ComesNext s.calls a
       pub may : v.may_draw ≡ 1
       pub in_use : 1 ≤ v.parts
@@ -101,6 +103,7 @@ module _ (g : Setup) (id : ℕ) (v : View) (m : Mem) (vs : List View) (s : Story
       pub bag : BagSound g.checked (seen bags v) → BagSound g.checked (record { futures = v.futures; runs = runs })
       pub numbered : unnumbered made + is_new a ≡ unnumbered v.made
       pub class : Each (λ (r : Made). r.number ≢ 0 → r.class ≡ class_in g.checked (by_number (more s.calls a) r.number)) made
+      pub counted : Each (λ (r : Made). r.live ≡ true → r.number ≢ 0) made
       pub saved_apart : (w : ℕ) → w < units_of g.plan → is_saved (states w) ≡ true → task_of s.calls (number_of (states w)) ≢ task_in (Some a) (new s.calls a)
       pub drawn_apart : (k : ℕ) (x : View) → At vs k x → Each (λ (d : Drawn). task_of s.calls d.number ≢ task_in (Some a) (new s.calls a)) x.drawn
       pub runs_apart : (k : ℕ) (x : View) → k ≢ id → At vs k x → Each (λ (r : Run). r.asked ≡ false → task_of s.calls r.number ≢ task_in (Some a) (new s.calls a)) x.runs
@@ -218,10 +221,10 @@ module _ (g : Setup) (id : ℕ) (v : View) (m : Mem) (vs : List View) (s : Story
     task-of-run : (t : ℕ) (k : ℕ) (x : View) → At vs k x → (j : ℕ) (r : Run) → At x.runs j r → one_if (task_of calls r.number == t) ≡ one_if (task_of s.calls r.number == t)
     task-of-run t k x there j r there' = ap (λ (y : ℕ). one_if (y == t)) (task-same s.calls a r.number (not-new s.calls a r.number (run-numbers k x there j r there')))
 
-    hands-view : (t k : ℕ) (h : Places) → At (map (seen owners) vs) k h → in_hands calls t h ≡ in_hands s.calls t h
+    hands-view : (t k : ℕ) (h : TasksHeld) → At (map (seen owners) vs) k h → in_hands calls t h ≡ in_hands s.calls t h
     hands-view t k h there =
         let x = map_at (seen owners) vs k h there in
-        subst (λ (y : Places). in_hands calls t y ≡ in_hands s.calls t y) x.2
+        subst (λ (y : TasksHeld). in_hands calls t y ≡ in_hands s.calls t y) x.2
         (omega (arith, total-same (λ (r : Run). one_if (task_of calls r.number == t)) (λ (r : Run). one_if (task_of s.calls r.number == t)) (x.0).runs (task-of-run t k x.0 x.1)))
 
     -- one hand more has the new number
@@ -243,10 +246,10 @@ module _ (g : Setup) (id : ℕ) (v : View) (m : Mem) (vs : List View) (s : Story
             omega (arith, ap one_if (ne_eqb (m (task w)) n (λ same. omega (arith, same, ((l.schedule owners).is_of w near (saved-record (states w) e)).1, (task-of-number s.calls a sound (number_of (states w)) number).1, number.1))))
         by false e = omega arith
 
-    hand-none : (k : ℕ) (h : Places) → At (map (seen owners) vs) k h → in_hands s.calls n h ≤ 0
+    hand-none : (k : ℕ) (h : TasksHeld) → At (map (seen owners) vs) k h → in_hands s.calls n h ≤ 0
     hand-none k h there =
         let x = map_at (seen owners) vs k h there in
-        subst (λ (y : Places). in_hands s.calls n y ≤ 0) x.2
+        subst (λ (y : TasksHeld). in_hands s.calls n y ≤ 0) x.2
         (omega (
           arith,
           total-bounded (λ (y : Drawn). one_if (y.number == n)) 0 (x.0).drawn (λ j y at'. omega (arith, ap one_if (ne_eqb y.number n (not-new s.calls a y.number (drawn-numbers k x.0 x.1 j y at'))))),
@@ -337,6 +340,11 @@ module _ (g : Setup) (id : ℕ) (v : View) (m : Mem) (vs : List View) (s : Story
       draw-says draws = moves g vs id v at draws story m' after_draw
           (omega (arith, l.schedule draws, is.may, word-is, total-set (λ (k : ℕ). k) (map (seen draws) vs) id (seen draws v) 0 (at_map (seen draws) vs id v at)))
       draw-says names = calls-more s.calls a sound is.names is.next
+      draw-says suited = each-append (Suits g.checked) s.calls (a ∷ []) (l.schedule suited) (each-cons (Suits g.checked) a [] is.suits (each-none _))
+      draw-says results = l.schedule results
+      draw-says begun = λ w near is.
+          subst (λ (o : Option ℕ). IfSome o (IsComplete s.ends)) (sym (after-same s.calls a (number_of (states w)) (not-new s.calls a (number_of (states w)) ((l.schedule owners).is_of w near (begun-record (states w) is)).0)))
+          (l.schedule begun w near is)
       draw-says callers = moves g vs id v at callers story m' after_draw (record {
         once = λ k. omega (
           arith,
@@ -376,6 +384,12 @@ module _ (g : Setup) (id : ℕ) (v : View) (m : Mem) (vs : List View) (s : Story
             (is.run_as.each IsFramed (λ r r' alike e. subst (λ (k : ℕ). IsFrameOf g.checked calls (λ w. m (task w)) k (body_at g.checked (slice_index r'.words))) (sym alike.number)
             (subst (λ (ws : List ℕ). IsFrameOf g.checked calls (λ w. m (task w)) r.number (body_at g.checked (slice_index ws))) (sym alike.words) e)) (framed-old id v at));
       })
+      draw-says formed = moves g vs id v at formed story m' after_draw (record {
+        saved = (l.schedule formed).saved;
+        running = each-set _ (map (seen formed) vs) id runs (l.schedule formed).running
+            (is.run_as.each (λ (r : Run). IsFormed g.checked (slice_index r.words)) (λ r r' alike e. subst (λ (ws : List ℕ). IsFormed g.checked (slice_index ws)) (sym alike.words) e)
+            ((l.schedule formed).running id v.runs (at_map (seen formed) vs id v at)));
+      })
       draw-says root_tasks = moves g vs id v at root_tasks story m' after_draw roots_say
       draw-says owners = moves g vs id v at owners story m' after_draw (record {
         is_of = λ w near record_is. let was = (l.schedule owners).is_of w near record_is in
@@ -404,6 +418,9 @@ module _ (g : Setup) (id : ℕ) (v : View) (m : Mem) (vs : List View) (s : Story
             is.mades.sums (λ (r : Made). one_if r.live) (λ r r' alike. ap one_if alike.live),
             total-set lives_in (map (seen live) vs) id (seen live v) (seen live after_draw) (at_map (seen live) vs id v at),
           ))
+      draw-says counted_lives = moves g vs id v at counted_lives story m' after_draw
+          (let was : CountedSound (seen counted_lives v) = l.schedule counted_lives id (seen counted_lives v) (at_map (seen counted_lives) vs id v at) in
+          each-set CountedSound (map (seen counted_lives) vs) id (seen counted_lives after_draw) (l.schedule counted_lives) (record { made = is.counted; done = was.done }))
       draw-says classes = moves g vs id v at classes story m' after_draw (record {
         records = λ w near record_is. (l.schedule classes).records w near record_is ∙ ap (class_in g.checked) (sym (call-same s.calls a sound (number_of (states w)) ((l.schedule owners).is_of w near record_is).0));
         made = old-or-new classes (Each (λ (r : Made). r.number ≢ 0 → r.class ≡ class_in g.checked (by_number calls r.number))) (class-stays a) is.class;
@@ -417,6 +434,7 @@ module _ (g : Setup) (id : ℕ) (v : View) (m : Mem) (vs : List View) (s : Story
             ((l.schedule behind).chained_behind k chains at' j chain at'' i w at''');
       })
       draw-says bags = moves g vs id v at bags story m' after_draw (each-set (BagSound g.checked) (map (seen bags) vs) id _ (l.schedule bags) (is.bag (l.schedule bags id (seen bags v) (at_map (seen bags) vs id v at))))
+      draw-says limits = frames g vs id v at limits story m' after_draw refl (limits-stay g.plan.limit s.calls a s.ends (map (seen limits) vs) (l.schedule limits))
       draw-says quiet = frames g vs id v at quiet story m' after_draw refl (l.schedule quiet)
 
       -- all parts, of the story with the new call

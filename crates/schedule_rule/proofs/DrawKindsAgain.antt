@@ -19,17 +19,18 @@ use Rattle.table_core.specs.declared.view.View.{View}
 use Rattle.table_core.specs.Parts.{totals}
 use Rattle.table_core.proofs.ListFacts.{at_map, set_again, set_here, set_cases}
 use Rattle.schedule_rule.specs.Calls.{task_of, IsNumber, IsBefore, NamesEarlier, begun, IsLast}
-use Rattle.schedule_rule.specs.Askers.{AskedSound}
+use Rattle.schedule_rule.specs.Askers.{IsNextOf, AskedSound}
 use Rattle.schedule_rule.specs.Frames.{IsFrameOf}
 use Rattle.schedule_rule.specs.RootTasks.{RootTask, RootTasksSound}
 use Rattle.schedule_rule.specs.DrawViews.{drawn_for, ask_again, asking_again, drew, drew_again, drew_none, Drew, NextBehind}
-use Rattle.schedule_rule.specs.Parts.{askers, framed, root_tasks, running, seen, AllSay, Lawful, Keeps}
+use Rattle.schedule_rule.specs.Parts.{askers, framed, root_tasks, running, seen, AllSay, LawfulAfter, Keeps, counted_lives}
 use Rattle.schedule_rule.proofs.AskingFacts.{its_task, is_run, is_task, one-run, no-saved, no-drawn, run-changed, asked-by_run, asks_now}
 use Rattle.schedule_rule.proofs.ChangedFacts.{same-as, set-as, bag-as, IsMadeAs, IsRunAs}
 use Rattle.schedule_rule.proofs.DrawKinds.{IsDraw, after_draw, story, drawn, class-stays}
 use Rattle.schedule_rule.proofs.DrawKindsLimit.{none_drawn}
 use Rattle.schedule_rule.proofs.KnownFacts.{seen-task, known-some, known-before}
 use Rattle.schedule_rule.proofs.StoryFacts.{more, new, not-new, task-same, task-here, begun-same, begun-last, last-stays, root_tasks-stay, ComesNext}
+use Rattle.schedule_rule.proofs.Rule.{same-story, one-call}
 
 -- the roots' tasks are as before, once one more call is accepted
 pub roots-stay : (g : Setup) (m : Mem) (calls : List Accepted) (a : Accepted) (vs : List RootTask) → RootTasksSound g.checked g.plan calls (λ w. m (task w)) (λ r. m (root r)) vs
@@ -45,7 +46,7 @@ roots-stay g m calls a vs was = record {
 }
 
 module _ (g : Setup) (id : ℕ) (v : View) where
-  module _ (m : Mem) (vs : List View) (s : Story) (l : AllSay g s m vs) (at : At vs id v) (r : Run) (has : Has r v.runs) (not_asked : r.asked ≡ false) (waits : Option ℕ)
+  module _ (m : Mem) (vs : List View) (s : Story) (l : AllSay g s m vs) (at : At vs id v) (r : Run) (has : Has r v.runs) (not_asked : r.asked ≡ false) (none : r.unplaced ≡ 0) (waits : Option ℕ)
       (next : NextBehind v waits (body_at g.checked (slice_index r.words))) (may : v.may_draw ≡ 1) (in_use : 1 ≤ v.parts) where
     abbrev a : Accepted
     a = Respawn r.task waits
@@ -112,6 +113,7 @@ module _ (g : Setup) (id : ℕ) (v : View) where
     is_draw : IsDraw g id v m vs s l at a v.made runs
     is_draw = record {
       names = names-earlier;
+      suits = tt;
       next = comes-next;
       may = may;
       in_use = in_use;
@@ -120,6 +122,7 @@ module _ (g : Setup) (id : ℕ) (v : View) where
       bag = bag-as g.checked v.futures v.runs has.0 r (ask_again r) has.1 refl;
       numbered = omega arith;
       class = class-stays g id v m vs s l at a id v at;
+      counted = (l.schedule counted_lives id (seen counted_lives v) (at_map (seen counted_lives) vs id v at)).made;
       saved_apart = λ w near saved. not-of (number_of (m (state w))) (no-saved g id v m vs s l at r has w near saved);
       drawn_apart = λ k x there j d there'. not-of d.number (no-drawn g id v m vs s l at r has not_asked k x there j d there');
       runs_apart = λ k x ne there j y there' _. not-of y.number (λ e. ne (one-run g id v m vs s l at r has k x there j y there' e).0);
@@ -136,24 +139,24 @@ module _ (g : Setup) (id : ℕ) (v : View) where
 
     -- for whom numbers are drawn
     asks : AskedSound (more s.calls a) g.plan (asks_now g id v m vs s l at r has a (ask_again r) alike refl (λ _. refl) v.made (new s.calls a) r.unit)
-    asks = asked-by_run g id v m vs s l at r has a (ask_again r) alike refl (λ _. refl) v.made (new s.calls a) r.unit
-        (inr (
-          ask_again r,
-          (has.0, set_here v.runs has.0 r (ask_again r) has.1),
-          record {
-            unit = refl;
-            asked = refl;
-            asker = ap OfTask (sym same_task);
-            task = task-here s.calls a ∙ task-is ∙ sym same_task;
-            next = ap (λ (x : ℕ). begun (more s.calls a) x (new s.calls a)) same_task ∙ begun-same s.calls a t (new s.calls a) (omega arith) ∙ begun-last s.calls a r.number number last
-                ∙ ap (λ (x : ℕ). x + 1) (sym (ap (λ (x : ℕ). begun (more s.calls a) x r.number) same_task ∙ begun-same s.calls a t r.number (omega (arith, number.1))));
-          },
-        ))
+    asks = asked-by_run g id v m vs s l at r has a (ask_again r) alike refl (λ _. refl) v.made (new s.calls a) r.unit none
+        (λ _. inr its_next)
+        (inr (ask_again r, (has.0, set_here v.runs has.0 r (ask_again r) has.1), its_next))
         (λ d there y there' _. there')
         (λ k y there some. let d = (l.schedule askers id (seen askers v) (at_map (seen askers) vs id v at)).made k y there some in (d.0, (suc d.1.0, d.1.1), d.2, d.3))
       where
         same_task : task_of (more s.calls a) r.number ≡ t
         same_task = task-same s.calls a r.number (not-new s.calls a r.number number)
+
+        its_next : IsNextOf (more s.calls a) (drawn_for (new s.calls a) r.unit (OfTask t)) (ask_again r)
+        its_next = record {
+          unit = refl;
+          asked = refl;
+          asker = ap OfTask (sym same_task);
+          task = task-here s.calls a ∙ task-is ∙ sym same_task;
+          next = ap (λ (x : ℕ). begun (more s.calls a) x (new s.calls a)) same_task ∙ begun-same s.calls a t (new s.calls a) (omega arith) ∙ begun-last s.calls a r.number number last
+              ∙ ap (λ (x : ℕ). x + 1) (sym (ap (λ (x : ℕ). begun (more s.calls a) x r.number) same_task ∙ begun-same s.calls a t r.number (omega (arith, number.1))));
+        }
 
     -- the roots have the tasks that they had
     roots-say : RootTasksSound g.checked g.plan (more s.calls a) (λ w. m (task w)) (λ x. m (root x)) (slice_set (map (seen root_tasks) vs) id (seen root_tasks v))
@@ -173,19 +176,19 @@ module _ (g : Setup) (id : ℕ) (v : View) where
         ∙ ap (λ (k : ℕ). saw (sum 0) (m (sum 0)) (drew (drawn_for (m (sum 0) + 1) r.unit (OfTask k)) a v.made (asking_again r.unit v.runs) v.root_task v)) (sym task-is)
 
   -- draw again: the run has not asked for its next activation
-  pub draws-again-at : (r : Run) → Has r v.runs → r.asked ≡ false → (waits : Option ℕ) → NextBehind v waits (body_at g.checked (slice_index r.words)) → v.may_draw ≡ 1 → 1 ≤ v.parts
+  pub draws-again-at : (r : Run) → Has r v.runs → r.asked ≡ false → r.unplaced ≡ 0 → (waits : Option ℕ) → NextBehind v waits (body_at g.checked (slice_index r.words)) → v.may_draw ≡ 1 → 1 ≤ v.parts
       → Keeps g id v (sum 0) (λ n. (n + 1) % 2 ^ 64) (Drew g.plan.limit (λ n. drew_again r.unit r.task (Respawn r.task waits) n v) (drew_none (OfTask r.task) v))
-  draws-again-at r has not_asked waits next may in_use m vs s l at small = elim (cases_lt (m (sum 0)) g.plan.limit) [
+  draws-again-at r has not_asked none waits next may in_use m vs s l at small = elim (cases_lt (m (sum 0)) g.plan.limit) [
     | inl low ↦
-        let same = view-is m vs s l at r has not_asked waits next may in_use low in let new_view : View = saw (sum 0) (m (sum 0)) (drew_again r.unit r.task (Respawn r.task waits) (m (sum 0) + 1) v) in (
+        let same = view-is m vs s l at r has not_asked none waits next may in_use low in let new_view : View = saw (sum 0) (m (sum 0)) (drew_again r.unit r.task (Respawn r.task waits) (m (sum 0) + 1) v) in (
           new_view,
-          subst (λ (w : View). Lawful g (put m (sum 0) ((m (sum 0) + 1) % 2 ^ 64)) (slice_set vs id w)) same (_, now m vs s l at r has not_asked waits next may in_use low),
+          subst (λ (w : View). LawfulAfter g s (put m (sum 0) ((m (sum 0) + 1) % 2 ^ 64)) (slice_set vs id w)) same (_, one-call s _, now m vs s l at r has not_asked none waits next may in_use low),
           ((λ _. refl), (λ far. absurd (omega (arith, low, far)))),
           (refl, refl),
         )
     | inr far ↦ (
       saw (sum 0) (m (sum 0)) (drew_none (OfTask r.task) v),
-      (s, none_drawn g id v m vs s l at (OfTask r.task) may in_use (omega (arith, far))),
+      (s, same-story s, none_drawn g id v m vs s l at (OfTask r.task) may in_use (omega (arith, far))),
       ((λ low. absurd (omega (arith, low, far))), (λ _. refl)),
       (refl, refl),
     )

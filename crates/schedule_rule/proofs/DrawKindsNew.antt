@@ -1,5 +1,5 @@
 -- A number is drawn for a new task, whose record is made: what keeps the scheduler's rule, be the asker a run or a root.
-use Rattle.std.proofs.Common.{◌≡◌, ◌≢◌, ◌∙◌, inl, inr, ℕ, suc, ◌≤◌, ◌==◌, Bool, false, cond, Some, List, ◌∷◌, map, refl, sym, ap, subst, arith}
+use Rattle.std.proofs.Common.{◌≡◌, ◌≢◌, ◌∙◌, inl, inr, ℕ, suc, ◌≤◌, ◌==◌, Bool, true, false, cond, Some, List, ◌∷◌, map, refl, sym, ap, subst, arith}
 use Rattle.std.specs.Prelude.{slice_set, slice_get}
 use Rattle.std.proofs.lemmas.Bool.{eq-eqb, ne_eqb}
 use Rattle.record_core.specs.Counting.{At, Has}
@@ -18,24 +18,24 @@ use Rattle.table_core.specs.declared.setup.Setup.{Setup}
 use Rattle.table_core.specs.declared.view.View.{View}
 use Rattle.table_core.proofs.ListFacts.{at_map, same_some, each-set, set_cases, set_here}
 use Rattle.table_core.proofs.ReferenceBound.{in-few}
-use Rattle.schedule_rule.specs.Calls.{task_in, IsLast}
+use Rattle.schedule_rule.specs.Calls.{task_in, IsLast, Suits}
 use Rattle.schedule_rule.specs.Askers.{IsFirstOf}
 use Rattle.schedule_rule.specs.Counts.{class_in}
 use Rattle.schedule_rule.specs.Frames.{BagSound}
-use Rattle.schedule_rule.specs.DrawViews.{give_number, with_number, drawn_for, KnowsCall}
-use Rattle.schedule_rule.specs.Parts.{askers, bags, seen, AllSay}
+use Rattle.schedule_rule.specs.DrawViews.{give_number, with_number, drawn_for, KnowsNamed}
+use Rattle.schedule_rule.specs.Parts.{askers, bags, seen, AllSay, counted_lives}
 use Rattle.schedule_rule.proofs.ChangedFacts.{AreAs, set-as, changed-one, IsMadeAs, IsRunAs}
 use Rattle.schedule_rule.proofs.DrawKinds.{IsDraw, class-stays, none-of_new, drawn-numbers, run-numbers, saved-number}
 use Rattle.schedule_rule.proofs.KnownFacts.{known-call}
 use Rattle.schedule_rule.proofs.StoryFacts.{more, new, number-here, task-here, ComesNext}
 
 -- what begins a task
-pub begins-task : (v : View) (a : Accepted) (n : ℕ) → KnowsCall v a → (task_in (Some a) n ≡ n) × (is_new a ≡ 1)
+pub begins-task : (v : View) (a : Accepted) (n : ℕ) → KnowsNamed v a → (task_in (Some a) n ≡ n) × (is_new a ≡ 1)
 begins-task v (OfCall call waits) n knows = (refl, refl)
 begins-task v (OfAll members) n knows = (refl, refl)
 begins-task v (Respawn t waits) n knows = absurd knows
 
-module _ (g : Setup) (id : ℕ) (v : View) (m : Mem) (vs : List View) (s : Story) (l : AllSay g s m vs) (at : At vs id v) (a : Accepted) (knows : KnowsCall v a)
+module _ (g : Setup) (id : ℕ) (v : View) (m : Mem) (vs : List View) (s : Story) (l : AllSay g s m vs) (at : At vs id v) (a : Accepted) (suits : Suits g.checked a) (knows : KnowsNamed v a)
     (y : Made) (has : Has y v.made) (no_number : y.number ≡ 0) (class_is : y.class ≡ class_in g.checked (Some a)) where
   abbrev n : ℕ
   n = new s.calls a
@@ -58,13 +58,14 @@ module _ (g : Setup) (id : ℕ) (v : View) (m : Mem) (vs : List View) (s : Story
 
   -- the call is no further activation
   no-next : ComesNext s.calls a
-  no-next t members waits same here = absurd (subst (KnowsCall v) same knows)
+  no-next t members waits same here = absurd (subst (KnowsNamed v) same knows)
 
   -- the draw has what every draw needs
   pub new-draw : (runs : List Run) → v.may_draw ≡ 1 → 1 ≤ v.parts → AreAs IsRunAs v.runs runs → (BagSound g.checked (seen bags v) → BagSound g.checked (record { futures = v.futures; runs = runs }))
       → Each (λ (r : Run). r.asked ≡ false → IsLast (more s.calls a) r.number) runs → IsDraw g id v m vs s l at a numbered runs
   new-draw runs may in_use alike bag last = record {
     names = known-call g id v m vs s l at a knows;
+    suits = suits;
     next = no-next;
     may = may;
     in_use = in_use;
@@ -80,6 +81,7 @@ module _ (g : Setup) (id : ℕ) (v : View) (m : Mem) (vs : List View) (s : Story
     );
     class = each-set (λ (r : Made). r.number ≢ 0 → r.class ≡ class_in g.checked (by_number (more s.calls a) r.number)) v.made has.0 (give_number n y) (class-stays g id v m vs s l at a id v at)
         (λ _. class_is ∙ ap (class_in g.checked) (sym (number-here s.calls a)));
+    counted = each-set (λ (r : Made). r.live ≡ true → r.number ≢ 0) v.made has.0 (give_number n y) (l.schedule counted_lives id (seen counted_lives v) (at_map (seen counted_lives) vs id v at)).made (λ _ e. omega (arith, e));
     saved_apart = λ w near saved. none-of_new g id v m vs s l at a begins _ (saved-number g id v m vs s l at w near saved);
     drawn_apart = λ k x there j d there'. none-of_new g id v m vs s l at a begins d.number (drawn-numbers g id v m vs s l at k x there j d there');
     runs_apart = λ k x _ there j r there' _. none-of_new g id v m vs s l at a begins r.number (run-numbers g id v m vs s l at k x there j r there');

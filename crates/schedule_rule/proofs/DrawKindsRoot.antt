@@ -9,8 +9,8 @@ use Rattle.task_syntax.specs.declared.program.Root.{Root as RootLine}
 use Rattle.task_syntax.specs.declared.program.RootArgument.{RootArgument}
 use Rattle.task_syntax.specs.declared.program.RootArgument.TheVariants as root_argument
 use Rattle.task_meaning.specs.Meant.{future_at}
-use Rattle.task_meaning.specs.Roots.{root_call, root_future}
-use Rattle.task_meaning.specs.RootLaws.{root_waits, IsRootTask, AreRootTasks}
+use Rattle.task_meaning.specs.Roots.{root_call, root_future, root_number}
+use Rattle.task_meaning.specs.RootLaws.{root_waits, IsRootTask, AreRootTasks, NamesTasks}
 use Rattle.task_meaning.specs.WorthLaws.{NamesUpTo}
 use Rattle.task_meaning.specs.Worths.{Accepted, OfCall}
 use Rattle.table_core.specs.Addresses.{Mem, task, root, sum, put, units_of}
@@ -25,13 +25,13 @@ use Rattle.table_core.specs.declared.view.View.{View}
 use Rattle.table_core.specs.Parts.{roots, totals, seen as table_seen}
 use Rattle.table_core.proofs.ListFacts.{at_map, map_at, same_some, each-cons, set_cases}
 use Rattle.table_core.proofs.RootKinds.{word-here, word-behind}
-use Rattle.schedule_rule.specs.Calls.{IsBefore, NamesEarlier, IsLast}
+use Rattle.schedule_rule.specs.Calls.{IsBefore, NamesEarlier, IsLast, Suits, sort_passed}
 use Rattle.schedule_rule.specs.Askers.{Asks, IsAsker, IsForRecord, AskedSound}
 use Rattle.schedule_rule.specs.Counts.{class_in}
 use Rattle.schedule_rule.specs.RootTasks.{RootTask, RootTasksSound}
-use Rattle.schedule_rule.specs.DrawViews.{drawn_for, with_number, drew, drew_for_root, drew_none, Drew, KnowsTask, KnowsCall, IsRootCall}
-use Rattle.schedule_rule.specs.Parts.{askers, root_tasks, running, seen, AllSay, Lawful, Keeps}
-use Rattle.schedule_rule.proofs.AskFacts.{asker-stays, record-stays, unplaced-stays}
+use Rattle.schedule_rule.specs.DrawViews.{drawn_for, with_number, drew, drew_for_root, drew_none, Drew, KnowsTask, KnowsNamed, IsRootCall}
+use Rattle.schedule_rule.specs.Parts.{askers, root_tasks, running, seen, AllSay, LawfulAfter, Keeps}
+use Rattle.schedule_rule.proofs.AskFacts.{asker-stays, record-stays, next-stays, unplaced-stays}
 use Rattle.schedule_rule.proofs.ChangedFacts.{same-as, IsRunAs}
 use Rattle.schedule_rule.proofs.DrawKinds.{IsDraw, after_draw, story, drawn, none-of_new, drawn-numbers, run-numbers}
 use Rattle.schedule_rule.proofs.DrawKindsLimit.{none_drawn}
@@ -39,10 +39,33 @@ use Rattle.schedule_rule.proofs.DrawKindsNew.{begins-task, numbered, made-change
 use Rattle.schedule_rule.proofs.KnownFacts.{seen-task, known-call}
 use Rattle.schedule_rule.proofs.RootCallFacts.{grown, length-grown, grown-here, grown-other, none-behind, call-agrees, waits-agree, arguments-agree, behind-agrees, root-kept}
 use Rattle.schedule_rule.proofs.StoryFacts.{more, new, not-new, number-here, last-stays}
+use Rattle.schedule_rule.proofs.Rule.{same-story, one-call}
+use Rattle.task_syntax.specs.Form.{IsWellFormed}
+use Rattle.task_syntax.specs.Valid.{IsValid, sort_of_root}
+use Rattle.task_syntax.specs.declared.program.Program.{Program}
+use Rattle.std.proofs.lemmas.List.{length-map}
+
+-- a named root has a task, a number has none
+argument-sort : (known : List (Option ℕ)) (x : RootArgument) → NamesTasks known x → sort_of_root x ≡ sort_passed (root_future known x)
+argument-sort known (root_argument.Number n) names = refl
+argument-sort known (root_argument.Root r) names = ap sort_passed (sym names.1)
+
+-- the call of a root is one of the program
+root-suits : (p : Program) → IsWellFormed p → IsValid p → (v : View) (asked : List RootSays) (line : RootLine) (a : Accepted) → slice_get p.roots (length asked) ≡ Some line → IsRootCall v asked line a → Suits p a
+root-suits p formed valid v asked line a there is = subst (Suits p) (sym is.is) (record {
+  kind = (formed.roots (length asked) line there).kind;
+  numbers = λ k has. length-map line.arguments root_number ∙ ((valid.roots (length asked) line there).agrees k has).0;
+  futures = λ k has. let agrees = (valid.roots (length asked) line there).agrees k has in (
+    length-map line.arguments (root_future is.known) ∙ agrees.0,
+    (λ at o w has_o has_w.
+        let x = map_at (root_future is.known) line.arguments at o has_o in
+        agrees.1 at x.0 w x.1 has_w ∙ argument-sort is.known x.0 (is.arguments at x.0 x.1) ∙ ap sort_passed x.2),
+  );
+})
 
 -- what is known of the roots that a line names is known of its call
-pub root-known : (v : View) (asked : List RootSays) (line : RootLine) (a : Accepted) → IsRootCall v asked line a → KnowsCall v a
-root-known v asked line a is = subst (KnowsCall v) (sym is.is) (
+pub root-known : (v : View) (asked : List RootSays) (line : RootLine) (a : Accepted) → IsRootCall v asked line a → KnowsNamed v a
+root-known v asked line a is = subst (KnowsNamed v) (sym is.is) (
   (λ k o there. let x = map_at (root_future is.known) line.arguments k o there in subst (λ (p : Option ℕ). IfSome p (KnowsTask v)) x.2 (of (root_future is.known x.0) (named x.0))),
   of (root_waits is.known line.behind) (waited line.behind),
 )
@@ -60,11 +83,14 @@ root-known v asked line a is = subst (KnowsCall v) (sym is.is) (
     waited (Some r) t e = let u = is.knows r t e in (u.0, u.2)
 
 module _ (g : Setup) (id : ℕ) (v : View) where
-  module _ (m : Mem) (vs : List View) (s : Story) (l : AllSay g s m vs) (at : At vs id v) (asked : List RootSays) (has_turn : v.turn ≡ asked ∷ []) (few : length asked < g.plan.roots)
+  module _ (valid_form : IsWellFormed g.checked) (valid : IsValid g.checked) (m : Mem) (vs : List View) (s : Story) (l : AllSay g s m vs) (at : At vs id v) (asked : List RootSays) (has_turn : v.turn ≡ asked ∷ []) (few : length asked < g.plan.roots)
       (no_task : v.root_task ≡ 0) (line : RootLine) (is_line : slice_get g.checked.roots (length asked) ≡ Some line) (a : Accepted) (call : IsRootCall v asked line a)
       (y : Made) (has : Has y v.made) (no_number : y.number ≡ 0) (class_is : y.class ≡ class_in g.checked (Some a)) (may : v.may_draw ≡ 1) (in_use : 1 ≤ v.parts) where
-    abbrev knows : KnowsCall v a
+    abbrev knows : KnowsNamed v a
     knows = root-known v asked line a call
+
+    abbrev suits : Suits g.checked a
+    suits = root-suits g.checked valid_form valid v asked line a is_line call
 
     abbrev n : ℕ
     n = new s.calls a
@@ -76,7 +102,7 @@ module _ (g : Setup) (id : ℕ) (v : View) where
     at_root = length asked
 
     abbrev made : List Made
-    made = numbered g id v m vs s l at a knows y has no_number class_is
+    made = numbered g id v m vs s l at a suits knows y has no_number class_is
 
     abbrev asker : Asker
     asker = OfRoot at_root
@@ -235,7 +261,7 @@ module _ (g : Setup) (id : ℕ) (v : View) where
 
     -- the draw has what every draw needs
     is_draw : IsDraw g id v m vs s l at a made v.runs
-    is_draw = new-draw g id v m vs s l at a knows y has no_number class_is v.runs may in_use (same-as IsRunAs v.runs) (λ bag. bag) mine
+    is_draw = new-draw g id v m vs s l at a suits knows y has no_number class_is v.runs may in_use (same-as IsRunAs v.runs) (λ bag. bag) mine
 
     abbrev asks_now : Asks
     asks_now = record { made = made; runs = v.runs; drawn = drawn_for n y.unit asker ∷ v.drawn; turn = v.turn; root_task = n }
@@ -247,19 +273,25 @@ module _ (g : Setup) (id : ℕ) (v : View) where
 
     -- the record that a number is for is in the hand still
     record-now : (d : Drawn) → Has d v.drawn → IsForRecord calls (seen askers v) d → IsForRecord calls asks_now d
-    record-now d there (inl t) = inl (t.0, first-kept g id v m vs s l at a knows y has no_number class_is d there t.0 t.1 t.2, t.2)
+    record-now d there (inl t) = inl (t.0, first-kept g id v m vs s l at a suits knows y has no_number class_is d there t.0 t.1 t.2, t.2)
     record-now d there (inr t) = inr t
 
     -- for whom numbers are drawn
     asks : AskedSound calls g.plan asks_now
     asks = record {
-      asker = each-cons _ (drawn_for n y.unit asker) v.drawn ((asked, turn_has, refl, few, refl), inl (is-first g id v m vs s l at a knows y has no_number class_is asker)) (λ k d there.
+      asker = each-cons _ (drawn_for n y.unit asker) v.drawn ((asked, turn_has, refl, few, refl), inl (is-first g id v m vs s l at a suits knows y has no_number class_is asker)) (λ k d there.
           let t = (l.schedule askers id (seen askers v) (at_map (seen askers) vs id v at)).asker k d there in (
             asker-now d (k, there) d.asker (asker-stays s.calls a g.plan (seen askers v) (drawn-numbers g id v m vs s l at id v at) (run-numbers g id v m vs s l at id v at) d.number d.asker t.0),
             record-now d (k, there) (record-stays s.calls a g.plan (seen askers v) (drawn-numbers g id v m vs s l at id v at) (run-numbers g id v m vs s l at id v at) d (drawn-numbers g id v m vs s l at id v at k d there) t.1),
           ));
-      made = all-drawn g id v m vs s l at a knows y has no_number class_is asker;
+      made = all-drawn g id v m vs s l at a suits knows y has no_number class_is asker;
       unplaced = λ k r there. omega (arith, unplaced-stays s.calls a v.drawn r (run-numbers g id v m vs s l at id v at k r there) ((l.schedule askers id (seen askers v) (at_map (seen askers) vs id v at)).unplaced k r there));
+      one = (l.schedule askers id (seen askers v) (at_map (seen askers) vs id v at)).one;
+      asked = λ k r there e. let t = (l.schedule askers id (seen askers v) (at_map (seen askers) vs id v at)).asked k r there e in (
+        t.0,
+        (suc t.1.0, t.1.1),
+        next-stays s.calls a t.0 r (drawn-numbers g id v m vs s l at id v at t.1.0 t.0 t.1.1) (run-numbers g id v m vs s l at id v at k r there) t.2,
+      );
     }
 
     -- all parts, after the draw
@@ -270,26 +302,26 @@ module _ (g : Setup) (id : ℕ) (v : View) where
     -- the view is what the step tells
     view-is : (low : m (sum 0) < g.plan.limit) → after_draw g id v m vs s l at a made v.runs is_draw y.unit n asker low ≡ saw (sum 0) (m (sum 0)) (drew_for_root y.unit at_root a (m (sum 0) + 1) v)
     view-is low =
-        ap (λ (ms : List Made). saw (sum 0) (m (sum 0)) (drew (drawn_for n y.unit asker) a ms v.runs n v)) (sym (made-changed g id v m vs s l at a knows y has no_number class_is))
+        ap (λ (ms : List Made). saw (sum 0) (m (sum 0)) (drew (drawn_for n y.unit asker) a ms v.runs n v)) (sym (made-changed g id v m vs s l at a suits knows y has no_number class_is))
         ∙ ap (λ (k : ℕ). saw (sum 0) (m (sum 0)) (drew (drawn_for k y.unit asker) a (with_number y.unit k v.made) v.runs k v)) (omega (arith, (l.table totals).drawn, low))
 
   -- draw for a root: the next one, by the pass with the turn, for a record made in a block of its class
-  pub draws-for_root-at : (asked : List RootSays) → v.turn ≡ asked ∷ [] → length asked < g.plan.roots → v.root_task ≡ 0 → (line : RootLine) → slice_get g.checked.roots (length asked) ≡ Some line
+  pub draws-for_root-at : IsWellFormed g.checked → IsValid g.checked → (asked : List RootSays) → v.turn ≡ asked ∷ [] → length asked < g.plan.roots → v.root_task ≡ 0 → (line : RootLine) → slice_get g.checked.roots (length asked) ≡ Some line
       → (a : Accepted) → IsRootCall v asked line a → (y : Made) → Has y v.made → y.number ≡ 0 → y.class ≡ class_in g.checked (Some a) → v.may_draw ≡ 1 → 1 ≤ v.parts
       → Keeps g id v (sum 0) (λ n. (n + 1) % 2 ^ 64) (Drew g.plan.limit (λ n. drew_for_root y.unit (length asked) a n v) (drew_none (OfRoot (length asked)) v))
-  draws-for_root-at asked has_turn few no_task line is_line a call y has no_number class_is may in_use m vs s l at small = elim (cases_lt (m (sum 0)) g.plan.limit) [
+  draws-for_root-at valid_form valid asked has_turn few no_task line is_line a call y has no_number class_is may in_use m vs s l at small = elim (cases_lt (m (sum 0)) g.plan.limit) [
     | inl low ↦
-        let same = view-is m vs s l at asked has_turn few no_task line is_line a call y has no_number class_is may in_use low in
+        let same = view-is valid_form valid m vs s l at asked has_turn few no_task line is_line a call y has no_number class_is may in_use low in
         let new_view : View = saw (sum 0) (m (sum 0)) (drew_for_root y.unit (length asked) a (m (sum 0) + 1) v) in (
           new_view,
-          subst (λ (w : View). Lawful g (put m (sum 0) ((m (sum 0) + 1) % 2 ^ 64)) (slice_set vs id w)) same
-              (_, now m vs s l at asked has_turn few no_task line is_line a call y has no_number class_is may in_use low),
+          subst (λ (w : View). LawfulAfter g s (put m (sum 0) ((m (sum 0) + 1) % 2 ^ 64)) (slice_set vs id w)) same
+              (_, one-call s _, now valid_form valid m vs s l at asked has_turn few no_task line is_line a call y has no_number class_is may in_use low),
           ((λ _. refl), (λ far. absurd (omega (arith, low, far)))),
           (refl, refl),
         )
     | inr far ↦ (
       saw (sum 0) (m (sum 0)) (drew_none (OfRoot (length asked)) v),
-      (s, none_drawn g id v m vs s l at (OfRoot (length asked)) may in_use (omega (arith, far))),
+      (s, same-story s, none_drawn g id v m vs s l at (OfRoot (length asked)) may in_use (omega (arith, far))),
       ((λ low. absurd (omega (arith, low, far))), (λ _. refl)),
       (refl, refl),
     )

@@ -10,24 +10,25 @@ use Rattle.record_core.proofs.TotalFacts.{total-map, total-set, total-le}
 use Rattle.record_core.proofs.BelowFacts.{below-same}
 use Rattle.record_core.proofs.NumberFacts.{member_at}
 use Rattle.table_core.specs.Addresses.{Mem, root, sum}
-use Rattle.table_core.specs.Asking.{Asker}
+use Rattle.table_core.specs.Asking.{Asker, IsLimit}
 use Rattle.table_core.specs.Bounds.{IsBounded}
 use Rattle.table_core.specs.Holdings.{RootSays}
 use Rattle.table_core.specs.Roots.{Turn, RootsSound, word_at, asked_in}
 use Rattle.table_core.specs.Steps.{Stepped}
 use Rattle.table_core.specs.Story.{Story}
 use Rattle.table_core.specs.Views.{saw}
-use Rattle.table_core.specs.Parts.{Part as TablePart, bounds, shares, roots, seen as table_seen, Says as TableSays}
+use Rattle.table_core.specs.Parts.{Part as TablePart, bounds, shares, roots, seen as table_seen, Says as TableSays, totals}
 use Rattle.table_core.specs.declared.setup.Setup.{Setup}
 use Rattle.table_core.specs.declared.view.View.{View}
-use Rattle.table_core.proofs.ListFacts.{at_map, each-set, set_cases}
+use Rattle.table_core.proofs.ListFacts.{at_map, each-set, set_cases, each-cons}
 use Rattle.table_core.proofs.PoolKinds.{bounded}
 use Rattle.table_core.proofs.Rule.{frames as table_frames, moves as table_moves}
 use Rattle.table_core.proofs.RootKinds.{word-behind}
 use Rattle.table_core.proofs.StandingFacts.{total-some}
 use Rattle.schedule_rule.specs.DrawViews.{permitted, told_limit, saw_live, SawDrawn}
-use Rattle.schedule_rule.specs.Parts.{Part, draws, quiet, seen, Says, AllSay, Keeps}
-use Rattle.schedule_rule.proofs.Rule.{frames, moves, kept_word}
+use Rattle.schedule_rule.specs.Limits.{ToldSound}
+use Rattle.schedule_rule.specs.Parts.{Part, draws, quiet, seen, Says, AllSay, Keeps, limits}
+use Rattle.schedule_rule.proofs.Rule.{frames, moves, kept_word, same-story}
 
 -- a function that is 0 from k on is above 0 at k numbers at most
 few-above : (f : ℕ → ℕ) (k : ℕ) → ((r : ℕ) → k ≤ r → f r ≡ 0) → (n : ℕ) → (below (λ r. one_if (nat_lt 0 (f r))) n ≤ n) × (below (λ r. one_if (nat_lt 0 (f r))) n ≤ k)
@@ -95,11 +96,17 @@ module _ (g : Setup) (id : ℕ) (v : View) where
         (each-set _ (map (table_seen bounds) vs) id (table_seen bounds (after_limit (Some asker))) (l.table bounds) (bounded (table_seen bounds v) _ in_use was_bounded))
     limit-table (Some asker) in_use q = table_frames g vs id v at q s m (after_limit (Some asker)) refl (l.table q)
 
-    limit-says : (asker : Option Asker) (q : Part) → Says g q s m (map (seen q) (slice_set vs id (after_limit asker)))
-    limit-says None draws = frames g vs id v at draws s m (after_limit None) refl (l.schedule draws)
-    limit-says None q = frames g vs id v at q s m (after_limit None) refl (l.schedule q)
-    limit-says (Some asker) draws = frames g vs id v at draws s m (after_limit (Some asker)) refl (l.schedule draws)
-    limit-says (Some asker) q = frames g vs id v at q s m (after_limit (Some asker)) refl (l.schedule q)
+    limit-says : (asker : Option Asker) → g.plan.limit ≤ m (sum 0) → (q : Part) → Says g q s m (map (seen q) (slice_set vs id (after_limit asker)))
+    limit-says None far draws = frames g vs id v at draws s m (after_limit None) refl (l.schedule draws)
+    limit-says None far q = frames g vs id v at q s m (after_limit None) refl (l.schedule q)
+    limit-says (Some asker) far draws = frames g vs id v at draws s m (after_limit (Some asker)) refl (l.schedule draws)
+    limit-says (Some asker) far limits = moves g vs id v at limits s m (after_limit (Some asker))
+        (let was : ToldSound g.plan.limit s.calls (seen limits v) = (l.schedule limits).told id (seen limits v) (at_map (seen limits) vs id v at) in
+        record {
+          told = each-set (ToldSound g.plan.limit s.calls) (map (seen limits) vs) id (seen limits (after_limit (Some asker))) (l.schedule limits).told (record { answers = each-cons _ (record { asker = asker; refusal = IsLimit }) v.answers (λ _. omega (arith, (l.table totals).drawn, far)) was.answers; roots = was.roots });
+          ended = (l.schedule limits).ended;
+        })
+    limit-says (Some asker) far q = frames g vs id v at q s m (after_limit (Some asker)) refl (l.schedule q)
 
     -- the load of the word of living records
     abbrev after_live : View
@@ -141,13 +148,13 @@ module _ (g : Setup) (id : ℕ) (v : View) where
   sees-drawn-at asker in_use m vs s l at small = elim (cases_lt (m (sum 0)) g.plan.limit) [
     | inl low ↦ (
       saw (sum 0) (m (sum 0)) (permitted v),
-      kept_word g m (sum 0) (m (sum 0)) (slice_set vs id (saw (sum 0) (m (sum 0)) (permitted v))) refl (s, record { table = drawn-table m vs s l at in_use; schedule = drawn-says m vs s l at in_use low }),
+      kept_word g s m (sum 0) (m (sum 0)) (slice_set vs id (saw (sum 0) (m (sum 0)) (permitted v))) refl (s, same-story s, record { table = drawn-table m vs s l at in_use; schedule = drawn-says m vs s l at in_use low }),
       ((λ _. refl), (λ far. absurd (omega (arith, low, far)))),
       (refl, refl),
     )
     | inr far ↦ (
       saw (sum 0) (m (sum 0)) (told_limit asker v),
-      kept_word g m (sum 0) (m (sum 0)) (slice_set vs id (saw (sum 0) (m (sum 0)) (told_limit asker v))) refl (s, record { table = limit-table m vs s l at asker in_use; schedule = limit-says m vs s l at asker }),
+      kept_word g s m (sum 0) (m (sum 0)) (slice_set vs id (saw (sum 0) (m (sum 0)) (told_limit asker v))) refl (s, same-story s, record { table = limit-table m vs s l at asker in_use; schedule = limit-says m vs s l at asker (omega (arith, far)) }),
       ((λ low. absurd (omega (arith, low, far))), (λ _. refl)),
       steps asker (m (sum 0)),
     )
@@ -161,8 +168,9 @@ module _ (g : Setup) (id : ℕ) (v : View) where
   pub sees-live-at : Keeps g id v (sum 1) (λ n. n) (λ r w. w ≡ saw (sum 1) r (saw_live g.plan.roots r v))
   sees-live-at m vs s l at small = (
     saw (sum 1) (m (sum 1)) (saw_live g.plan.roots (m (sum 1)) v),
-    kept_word g m (sum 1) (m (sum 1)) (slice_set vs id (saw (sum 1) (m (sum 1)) (saw_live g.plan.roots (m (sum 1)) v))) refl (
+    kept_word g s m (sum 1) (m (sum 1)) (slice_set vs id (saw (sum 1) (m (sum 1)) (saw_live g.plan.roots (m (sum 1)) v))) refl (
       s,
+      same-story s,
       record {
         table = live-table m vs s l at;
         schedule = live-says m vs s l at;

@@ -1,8 +1,8 @@
 -- Filling a word of a record that is made, or a frame or result word of one that runs, keeps the scheduler's rule: what it says of
 -- tasks, lists and frames, it says of other records.
-use Rattle.std.proofs.Common.{◌≡◌, ◌∙◌, ℕ, ◌==◌, ◌&&◌, Bool, true, false, cond, not, List, [], map, Some, refl, sym, ap, subst, true≢false, arith}
+use Rattle.std.proofs.Common.{◌≡◌, ◌∙◌, ℕ, ◌==◌, ◌&&◌, Bool, true, false, cond, not, List, [], map, Some, refl, sym, ap, subst, true≢false, arith, ◌⊎◌, inl, inr, ◌≤◌}
 use Rattle.std.specs.Prelude.{slice_set, slice_index}
-use Rattle.std.proofs.lemmas.Bool.{eqb-true}
+use Rattle.std.proofs.lemmas.Bool.{eqb-true, ne_eqb}
 use Rattle.record_core.specs.Counting.{At, Has, one_if}
 use Rattle.record_core.proofs.BelowFacts.{below-same}
 use Rattle.kt_words.specs.HeadWords.{closed_word, link_of, length_of}
@@ -10,7 +10,7 @@ use Rattle.kt_words.specs.StateWords.{phase_of, number_of}
 use Rattle.frame_code.specs.Words.{body_at}
 use Rattle.table_core.specs.Addresses.{Addr, Mem, state, refs, head, next, task, outcome, arena, root, put, units_of, frame_in, super, bits, journal, evidence, sum}
 use Rattle.table_core.specs.Holdings.{Run}
-use Rattle.table_core.specs.Own.{is_own}
+use Rattle.table_core.specs.Own.{is_own, made_at, runs_at, record_words}
 use Rattle.table_core.specs.RecordViews.{filled}
 use Rattle.table_core.specs.References.{is_saved, is_record}
 use Rattle.table_core.specs.Story.{Story}
@@ -19,17 +19,22 @@ use Rattle.table_core.specs.WaitLists.{chained, listed}
 use Rattle.table_core.specs.declared.setup.Setup.{Setup}
 use Rattle.table_core.specs.declared.view.View.{View}
 use Rattle.table_core.proofs.FillKinds.{task-other, head-other, is-made, frame-stays, fill-lawful}
-use Rattle.table_core.proofs.ListFacts.{map_at}
+use Rattle.table_core.proofs.ListFacts.{map_at, at_map}
 use Rattle.table_core.proofs.Owners.{is_filled}
-use Rattle.table_core.proofs.RecordWords.{task-own, head-own}
+use Rattle.table_core.proofs.RecordWords.{task-own, head-own, owned-by}
 use Rattle.record_core.proofs.TotalFacts.{none_there}
 use Rattle.schedule_rule.specs.Numbers.{saved_at, done_with}
 use Rattle.schedule_rule.specs.RuleLaws.{is_filled as may_fill}
-use Rattle.schedule_rule.specs.Parts.{Part, owners, framed, root_tasks, behind, classes, seen, Says, AllSay, Keeps}
-use Rattle.schedule_rule.proofs.FrameFacts.{frame-tasks, frame-words, saved-members, running-members, root-named}
+use Rattle.schedule_rule.specs.Parts.{Part, owners, framed, root_tasks, behind, classes, seen, Says, AllSay, Keeps, formed, results}
+use Rattle.schedule_rule.proofs.FrameFacts.{frame-tasks, frame-words, saved-members, running-members, root-named, front-same}
 use Rattle.schedule_rule.proofs.RecordKinds.{test_record}
-use Rattle.schedule_rule.proofs.Rule.{frames}
+use Rattle.schedule_rule.proofs.Rule.{frames, same-story}
 use Rattle.schedule_rule.proofs.StateFacts.{saved-record}
+use Rattle.schedule_rule.specs.Calls.{Ended}
+use Rattle.frame_code.specs.Frames.{IsFrame}
+use Rattle.schedule_rule.specs.Results.{IsResult}
+use Rattle.table_core.proofs.OwnFacts.{made-phase, runs-phase, made-counts, runs-counts}
+use Rattle.table_core.specs.Parts.{own, seen as table_seen}
 
 -- the words that are filled, as the laws tell them
 pub filled-word : (a : Addr) → may_fill a ≡ true → is_filled a ≡ true
@@ -114,6 +119,9 @@ module _ (g : Setup) (id : ℕ) (v : View) where
             frame-tasks g.checked s.calls tasks tasks' r.number (body_at g.checked (slice_index r.words))
             (λ x has. others x (running-members g m vs s l k t.0 t.1 j r (subst (λ (y : List Run). At y j r) (sym t.2) at') x has)) ((l.schedule framed).running k rs there j r at');
       })
+      task-says results = frames g vs id v at results s (put m (task u) n) after refl (λ w near is.
+          let t = l.schedule results w near is in
+          (t.0, subst (λ (k : ℕ). Ended s.ends k t.0) (sym (others w (ap test_record is))) t.1, t.2))
       task-says root_tasks = frames g vs id v at root_tasks s (put m (task u) n) after refl (record {
         own = (l.schedule root_tasks).own;
         are = (l.schedule root_tasks).are;
@@ -168,20 +176,47 @@ module _ (g : Setup) (id : ℕ) (v : View) where
         saved = λ w near is. frame-words g.checked s.calls tasks (number_of (states w)) (frame_in m w) (frame_in (put m (arena x) n) w) (frame-stays g id v m vs s l.table at x n mine w near is) ((l.schedule framed).saved w near is);
         running = (l.schedule framed).running;
       })
+      frame-says formed = frames g vs id v at formed s (put m (arena x) n) after_frame refl (record {
+        saved = λ w near is. subst (IsFrame g.checked) (sym (front-same g.checked (frame_in m w) (frame_in (put m (arena x) n) w) (frame-stays g id v m vs s l.table at x n mine w near is))) ((l.schedule formed).saved w near is);
+        running = (l.schedule formed).running;
+      })
       frame-says q = frames g vs id v at q s (put m (arena x) n) after_frame refl (l.schedule q)
 
     refs-says : (u n : ℕ) (q : Part) → Says g q s (put m (refs u) n) (map (seen q) (slice_set vs id (saw (refs u) (m (refs u)) (filled (refs u) n v))))
     refs-says u n classes = frames g vs id v at classes s (put m (refs u) n) (saw (refs u) (m (refs u)) (filled (refs u) n v)) refl (l.schedule classes)
     refs-says u n q = frames g vs id v at q s (put m (refs u) n) (saw (refs u) (m (refs u)) (filled (refs u) n v)) refl (l.schedule q)
 
-    result-says : (u n : ℕ) (q : Part) → Says g q s (put m (outcome u) n) (map (seen q) (slice_set vs id (saw (outcome u) (m (outcome u)) (filled (outcome u) n v))))
-    result-says u n classes = frames g vs id v at classes s (put m (outcome u) n) (saw (outcome u) (m (outcome u)) (filled (outcome u) n v)) refl (l.schedule classes)
-    result-says u n q = frames g vs id v at q s (put m (outcome u) n) (saw (outcome u) (m (outcome u)) (filled (outcome u) n v)) refl (l.schedule q)
+    -- an own result is of a record that is made or runs
+    result-phase : (u : ℕ) → is_own v.made v.runs (outcome u) ≡ true → (phase_of (states u) ≡ 1) ⊎ (phase_of (states u) ≡ 4)
+    result-phase u mine = elim (owned-by v.made v.runs (outcome u) mine) [
+      | inl t ↦ inl (made-phase g.plan (λ i. m (super i)) states (record_words m) (map (table_seen own) vs) (l.table own) id (table_seen own v) (at_map (table_seen own) vs id v at) u
+          (subst (λ (w : ℕ). 1 ≤ made_at w v.made) (sym (eqb-true u (t.0).unit t.2)) (made-counts v.made t.0 t.1))).1
+      | inr t ↦ inr (runs-phase g.plan (λ i. m (super i)) states (record_words m) (map (table_seen own) vs) (l.table own) id (table_seen own v) (at_map (table_seen own) vs id v at) u
+          (subst (λ (w : ℕ). 1 ≤ runs_at w v.runs) (sym (eqb-true u (t.0).unit t.2)) (runs-counts v.runs t.0 t.1))).1
+    ]
+
+    -- a result word: those of done records stay
+    module _ (u n : ℕ) (mine : is_own v.made v.runs (outcome u) ≡ true) where
+      abbrev after_result : View
+      after_result = saw (outcome u) (m (outcome u)) (filled (outcome u) n v)
+
+      still-result : (w : ℕ) → phase_of (states w) ≡ 5 → put m (outcome u) n (outcome w) ≡ m (outcome w)
+      still-result w done = ap (λ (b : Bool). cond b n (m (outcome w))) (ne_eqb u w (λ e. apart e (result-phase u mine)))
+        where
+          apart : u ≡ w → (phase_of (states u) ≡ 1) ⊎ (phase_of (states u) ≡ 4) → ⊥
+          apart e (inl one) = omega (arith, sym one ∙ ap (λ (x : ℕ). phase_of (states x)) e ∙ done)
+          apart e (inr four) = omega (arith, sym four ∙ ap (λ (x : ℕ). phase_of (states x)) e ∙ done)
+
+      result-says : (q : Part) → Says g q s (put m (outcome u) n) (map (seen q) (slice_set vs id after_result))
+      result-says results = frames g vs id v at results s (put m (outcome u) n) after_result refl (λ w near done.
+          let t = l.schedule results w near done in
+          (t.0, t.1, (t.2.0, subst (λ (x : ℕ). IsResult x t.0) (sym (still-result w done)) t.2.1)))
+      result-says q = frames g vs id v at q s (put m (outcome u) n) after_result refl (l.schedule q)
 
     fill-says : (a : Addr) (n : ℕ) → is_own v.made v.runs a ≡ true → is_filled a ≡ true → (q : Part) → Says g q s (put m a n) (map (seen q) (slice_set vs id (saw a (m a) (filled a n v))))
     fill-says (task u) n mine may = task-says u n mine
     fill-says (head u) n mine may = head-says u n mine
-    fill-says (outcome u) n mine may = result-says u n
+    fill-says (outcome u) n mine may = result-says u n mine
     fill-says (refs u) n mine may = refs-says u n
     fill-says (arena x) n mine may = frame-says x n mine
     fill-says (super i) n mine may = absurd (true≢false (sym may))
@@ -196,4 +231,4 @@ module _ (g : Setup) (id : ℕ) (v : View) where
   -- fill: an own word of a record that is made, or the frame or the result of one that runs
   pub fills-at : (a : Addr) (n : ℕ) → is_own v.made v.runs a ≡ true → is_filled a ≡ true → Keeps g id v a (λ k. n) (λ r w. (k : ℕ) × (w ≡ saw a k (filled a n v)))
   fills-at a n mine may m vs s l at small =
-      (saw a (m a) (filled a n v), (s, record { table = fill-lawful g id v m vs s l.table at a n mine may; schedule = fill-says m vs s l at a n mine may }), (m a, refl), (refl, refl))
+      (saw a (m a) (filled a n v), (s, same-story s, record { table = fill-lawful g id v m vs s l.table at a n mine may; schedule = fill-says m vs s l at a n mine may }), (m a, refl), (refl, refl))

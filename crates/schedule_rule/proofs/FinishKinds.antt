@@ -1,5 +1,5 @@
 -- A running record is done: its task has ended, and the scheduler's rule is kept.
-use Rattle.std.proofs.Common.{◌≡◌, ◌≢◌, ◌∙◌, ◌⊎◌, inl, inr, ℕ, ◌+◌, ◌<◌, ◌≤◌, ◌==◌, ◌&&◌, Bool, true, false, cond, not, Option, Some, None, List, [], ◌∷◌, ◌++◌, map, length, refl, sym, ap, subst, arith}
+use Rattle.std.proofs.Common.{◌≡◌, ◌≢◌, ◌∙◌, ◌⊎◌, inl, inr, ℕ, ◌+◌, ◌<◌, ◌≤◌, ◌==◌, ◌&&◌, Bool, true, false, cond, not, Option, Some, None, List, [], ◌∷◌, ◌++◌, map, length, refl, sym, ap, subst, true≢false, arith}
 use Rattle.std.specs.Prelude.{slice_get, slice_set, slice_index, nat_le, IfSome}
 use Rattle.std.proofs.lemmas.Bool.{cases_eq, eq-eqb, ne_eqb}
 use Rattle.record_core.specs.Sums.{below}
@@ -9,42 +9,47 @@ use Rattle.record_core.proofs.BelowFacts.{below-same, below-set}
 use Rattle.record_core.proofs.CountFacts.{passing-one, total-dropped}
 use Rattle.record_core.proofs.TotalFacts.{total-set, total-member, total-snoc}
 use Rattle.kt_words.specs.HeadWords.{closed_word, link_of, length_of}
-use Rattle.kt_words.specs.StateWords.{phase_of, number_of, IsStateWord}
+use Rattle.kt_words.specs.StateWords.{phase_of, number_of, IsStateWord, tag_of, tag_code}
 use Rattle.frame_code.specs.Words.{body_at}
 use Rattle.task_meaning.specs.Worths.{OfAll}
 use Rattle.task_syntax.specs.declared.program.Program.{Program}
-use Rattle.table_core.specs.Addresses.{Mem, state, head, next, task, put, units_of, frame_in}
-use Rattle.table_core.specs.Asking.{Asker, OfRoot, OfTask, Drawn}
+use Rattle.table_core.specs.Addresses.{Mem, state, head, next, task, put, units_of, frame_in, outcome as result_word}
+use Rattle.table_core.specs.Asking.{Asker, OfRoot, OfTask, Drawn, Answer, Null, Limit, By, IsLimit}
 use Rattle.table_core.specs.Bounds.{IsBounded}
 use Rattle.table_core.specs.Holdings.{Run}
 use Rattle.table_core.specs.Lists.{Each}
 use Rattle.table_core.specs.Own.{Hands, runs_at}
 use Rattle.table_core.specs.References.{is_saved, is_live, is_record}
-use Rattle.table_core.specs.Story.{Story, Outcome, End, Fact, IsAccepted, IsOver, IsTask}
+use Rattle.table_core.specs.Story.{Story, Outcome, End, Fact, IsAccepted, IsOver, IsTask, Gave, WasCut}
 use Rattle.table_core.specs.Views.{saw}
 use Rattle.table_core.specs.WaitLists.{chained, listed}
-use Rattle.table_core.specs.WaitViews.{is_run_at, finished}
+use Rattle.table_core.specs.WaitViews.{is_run_at, finished, new_done}
 use Rattle.table_core.specs.Parts.{Part as TablePart, bounds, own, totals, seen as table_seen, Says as TableSays}
 use Rattle.table_core.specs.declared.setup.Setup.{Setup}
 use Rattle.table_core.specs.declared.view.View.{View}
 use Rattle.table_core.proofs.FinishKinds.{ran, recorded, saved, number-same, finish-parts as finish-table}
-use Rattle.table_core.proofs.ListFacts.{at_map, each-set, each-cons, each-dropped, total-has, total-dropped_le, same_some}
+use Rattle.table_core.proofs.ListFacts.{at_map, each-set, each-cons, each-dropped, total-has, total-dropped_le, same_some, each-append, each-none}
 use Rattle.table_core.proofs.PoolKinds.{bounded}
 use Rattle.table_core.proofs.RecordKinds.{state-here, state-other}
 use Rattle.table_core.proofs.ReferenceBound.{in-few}
 use Rattle.table_core.proofs.Rule.{moves as table_moves}
 use Rattle.schedule_rule.specs.Askers.{asks_for, IsAsker, IsForRecord, AskedSound}
-use Rattle.schedule_rule.specs.Calls.{task_of, after_of, IsNumber, IsTaskOf, IsLast, IsComplete, IsSo, ends_of}
-use Rattle.schedule_rule.specs.Counts.{lives_in, class_in}
+use Rattle.schedule_rule.specs.Calls.{task_of, after_of, IsNumber, IsTaskOf, IsLast, IsComplete, IsSo, ends_of, Ended}
+use Rattle.schedule_rule.specs.Counts.{lives_in, class_in, CountedSound}
 use Rattle.schedule_rule.specs.Frames.{IsFrameOf, Covers, needed, BagSound}
-use Rattle.schedule_rule.specs.LifeViews.{ended, FinishedTask}
-use Rattle.schedule_rule.specs.Numbers.{in_state, saved_at, done_with, in_hands, IsRun}
-use Rattle.schedule_rule.specs.Parts.{Part, facts, rowed, places, askers, framed, owners, running, live, classes, behind, bags, seen, Says, AllSay, Keeps}
+use Rattle.schedule_rule.specs.LifeViews.{ended, FinishedTask, KnowsEnd, IsFinishWord}
+use Rattle.schedule_rule.specs.Numbers.{in_state, saved_at, done_with, in_hands, IsRun, is_begun}
+use Rattle.schedule_rule.specs.Limits.{ToldSound, is_limit, IsMet, is_limit_end}
+use Rattle.schedule_rule.proofs.LimitFacts.{each-answers_left}
+use Rattle.schedule_rule.specs.Parts.{Part, facts, rowed, places, askers, framed, owners, running, live, classes, behind, bags, seen, Says, AllSay, Keeps, formed, results, begun, counted_lives, limits}
 use Rattle.schedule_rule.specs.Rows.{RowedSound}
 use Rattle.schedule_rule.proofs.KnowingFacts.{has-append, table-alike}
 use Rattle.schedule_rule.proofs.RecordKinds.{has-left}
-use Rattle.schedule_rule.proofs.Rule.{frames, moves}
+use Rattle.schedule_rule.proofs.Rule.{frames, moves, one-end}
 use Rattle.schedule_rule.proofs.StoryFacts.{task-of-number}
+use Rattle.schedule_rule.specs.Results.{tag_for, IsResult, SaysOutcome}
+use Rattle.task_syntax.specs.declared.value.Value.TheVariants.{Number, Trapped}
+use Rattle.schedule_rule.proofs.StateFacts.{begun-phase}
 
 map-dropped : {A B : Type 0} (f : A → B) (q : B → Bool) (l : List A) → map f (dropped (λ x. q (f x)) l) ≡ dropped q (map f l)
 map-dropped f q [] = refl
@@ -55,7 +60,7 @@ map-dropped {A} {B} f q (x ∷ l) = by (q (f x)) (map-dropped f q l)
     by false rest = ap (λ (ys : List B). f x ∷ ys) rest
 
 -- references that are enough for some runs are enough without one of them
-bag-dropped : (p : Program) (futures : List ℕ) (runs : List Run) (q : Run → Bool) → BagSound p (record { futures = futures; runs = runs }) → BagSound p (record { futures = futures; runs = dropped q runs })
+pub bag-dropped : (p : Program) (futures : List ℕ) (runs : List Run) (q : Run → Bool) → BagSound p (record { futures = futures; runs = runs }) → BagSound p (record { futures = futures; runs = dropped q runs })
 bag-dropped p futures runs q was = record {
   pairs = dropped (λ (x : Run × List ℕ). q x.0) was.pairs;
   are_runs = map-dropped (λ (x : Run × List ℕ). x.0) q was.pairs ∙ ap (dropped q) was.are_runs;
@@ -65,7 +70,7 @@ bag-dropped p futures runs q was = record {
 
 module _ (g : Setup) (id : ℕ) (v : View) where
   module _ (m : Mem) (vs : List View) (s : Story) (l : AllSay g s m vs) (at : At vs id v) (r : Run) (has : Has r v.runs) (placed : r.unplaced ≡ 0) (in_use : 1 ≤ v.parts) (n : ℕ) (done : phase_of n ≡ 5)
-      (numbered : number_of n ≡ r.number) (shape : IsStateWord n) (outcome : Outcome) where
+      (numbered : number_of n ≡ r.number) (shape : IsStateWord n) (outcome : Outcome) (tagged : tag_of n ≡ tag_code (tag_for outcome)) (knows : KnowsEnd v r outcome) where
     abbrev u : ℕ
     u = r.unit
 
@@ -196,6 +201,8 @@ module _ (g : Setup) (id : ℕ) (v : View) where
       asker = λ k d there. let was = was_asked.asker k d there in (asker-still d (k, there) d.asker refl was.0, for-still d (k, there) was.1);
       made = was_asked.made;
       unplaced = each-dropped _ (is_run_at u) v.runs was_asked.unplaced;
+      one = each-dropped _ (is_run_at u) v.runs was_asked.one;
+      asked = each-dropped _ (is_run_at u) v.runs was_asked.asked;
     }
       where
         asker-still : (d : Drawn) → Has d v.drawn → (a : Asker) → d.asker ≡ a → IsAsker s.calls g.plan (seen askers v) d.number a → IsAsker s.calls g.plan (seen askers after_finish) d.number a
@@ -240,6 +247,35 @@ module _ (g : Setup) (id : ℕ) (v : View) where
       saved = λ w low is. subst (λ (x : ℕ). IsFrameOf g.checked s.calls tasks x (body_at g.checked (frame_in m w))) (sym (number-now w)) ((l.schedule framed).saved w low (sym (saved-now w) ∙ is));
       running = each-set _ (map (seen framed) vs) id runs (l.schedule framed).running (each-dropped _ (is_run_at u) v.runs ((l.schedule framed).running id v.runs (at_map (seen framed) vs id v at)));
     })
+    finish-says formed = moves g vs id v at formed story m' after_finish (record {
+      saved = λ w low is. (l.schedule formed).saved w low (sym (saved-now w) ∙ is);
+      running = each-set _ (map (seen formed) vs) id runs (l.schedule formed).running (each-dropped _ (is_run_at u) v.runs ((l.schedule formed).running id v.runs (at_map (seen formed) vs id v at)));
+    })
+    finish-says results = frames g vs id v at results story m' after_finish refl (λ w low is. ended-at w low is (cases_eq w u))
+      where
+        -- the result word is that of the outcome
+        result-is : (o : Outcome) → KnowsEnd v r o → IsResult (m (result_word u)) o
+        result-is (Gave (Number k)) knows' = ((l.table own).known id (table_seen own v) (at_map (table_seen own) vs id v at) (result_word u) k knows').0
+        result-is (Gave (Trapped trap)) knows' = tt
+        result-is (WasCut cut told) knows' = tt
+
+        ended-at : (w : ℕ) → w < units_of g.plan → phase_of (now w) ≡ 5 → (w ≡ u) ⊎ (w ≢ u) → (o : Outcome) × Ended ends (tasks w) o × SaysOutcome (now w) (m (result_word w)) o
+        ended-at w low is (inl same) = subst (λ (x : ℕ). (o : Outcome) × Ended ends (tasks x) o × SaysOutcome (now x) (m (result_word x)) o) (sym same) (
+          outcome,
+          subst (λ (k : ℕ). Ended ends k outcome) (sym its_task) (last-member s.ends),
+          (ap tag_of (state-here m u n) ∙ tagged, result-is outcome knows),
+        )
+        ended-at w low is (inr other) =
+            let was = state-other m u n w other in
+            let t = l.schedule results w low (ap phase_of (sym was) ∙ is) in
+            (t.0, has-append (record { task = tasks w; outcome = t.0 }) s.ends (e ∷ []) t.1, subst (λ (x : ℕ). SaysOutcome x (m (result_word w)) t.0) (sym was) t.2)
+    finish-says begun = frames g vs id v at begun story m' after_finish refl (λ w low is. begun-at w low is (cases_eq w u))
+      where
+        begun-at : (w : ℕ) → w < units_of g.plan → is_begun (now w) ≡ true → (w ≡ u) ⊎ (w ≢ u) → IfSome (after_of s.calls (number_of (now w))) (IsComplete ends)
+        begun-at w low is (inl same) = absurd (omega (arith, (begun-phase (now w) is).1, ap (λ (x : ℕ). phase_of (now x)) same ∙ ap phase_of (state-here m u n) ∙ done))
+        begun-at w low is (inr ne) =
+            let was = state-other m u n w ne in
+            subst (λ (x : ℕ). IfSome (after_of s.calls (number_of x)) (IsComplete ends)) (sym was) (some-complete (after_of s.calls (number_of (states w))) (l.schedule begun w low (ap is_begun (sym was) ∙ is)))
     finish-says owners = moves g vs id v at owners story m' after_finish (record {
       is_of = λ w low is. subst (λ (x : ℕ). IsNumber s.calls x × (tasks w ≡ task_of s.calls x)) (sym (number-now w)) ((l.schedule owners).is_of w low (sym (recorded-now w) ∙ is));
       once = λ k is. omega (
@@ -261,8 +297,26 @@ module _ (g : Setup) (id : ℕ) (v : View) where
         ended-task k some (inr ne) = (l.schedule owners).ended k (omega (arith, some, ends-now k, ap one_if (ne_eqb t k ne)))
     finish-says running = moves g vs id v at running story m' after_finish
         (each-set _ (map (seen running) vs) id runs (l.schedule running) (each-dropped _ (is_run_at u) v.runs (l.schedule running id v.runs (at_map (seen running) vs id v at))))
+    finish-says limits = moves g vs id v at limits story m' after_finish
+        (let was : ToldSound g.plan.limit s.calls (seen limits v) = (l.schedule limits).told id (seen limits v) (at_map (seen limits) vs id v at) in
+        record {
+          told = each-set (ToldSound g.plan.limit s.calls) (map (seen limits) vs) id (seen limits after_finish) (l.schedule limits).told (record { answers = each-answers_left (λ (a : Answer). is_limit a.refusal ≡ true → IsMet g.plan.limit s.calls) t v.answers was.answers; roots = was.roots });
+          ended = each-append _ s.ends (e ∷ []) (l.schedule limits).ended (each-cons _ e [] (λ is. met outcome knows is) (each-none _));
+        })
+      where
+        met : (o : Outcome) → KnowsEnd v r o → is_limit_end o ≡ true → IsMet g.plan.limit s.calls
+        met (Gave (Number k)) why is = absurd (true≢false (sym is))
+        met (Gave (Trapped trap)) why is = absurd (true≢false (sym is))
+        met (WasCut Null refusal) why is = absurd (true≢false (sym is ∙ ap is_limit why))
+        met (WasCut Limit refusal) why is = ((l.schedule limits).told id (seen limits v) (at_map (seen limits) vs id v at)).answers why.1.0 (record { asker = OfTask t; refusal = IsLimit }) why.1.1 refl
+        met (WasCut (By k) refusal) why is =
+            let so = l.schedule facts id v.facts (at_map (seen facts) vs id v at) why.4.0 (IsOver k (WasCut why.1 refusal)) why.4.1 in
+            (l.schedule limits).ended so.0 (record { task = k; outcome = WasCut why.1 refusal }) so.1 is
     finish-says live = moves g vs id v at live story m' after_finish
         (omega (arith, l.schedule live, live-less, total-set lives_in (map (seen live) vs) id (seen live v) (seen live after_finish) (at_map (seen live) vs id v at)))
+    finish-says counted_lives = moves g vs id v at counted_lives story m' after_finish
+        (let was : CountedSound (seen counted_lives v) = l.schedule counted_lives id (seen counted_lives v) (at_map (seen counted_lives) vs id v at) in
+        each-set CountedSound (map (seen counted_lives) vs) id (seen counted_lives after_finish) (l.schedule counted_lives) (record { made = was.made; done = each-cons _ (new_done u) v.done (λ e. absurd (true≢false (sym e))) was.done }))
     finish-says classes = frames g vs id v at classes story m' after_finish refl (record {
       records = λ w low is. (l.schedule classes).records w low (sym (recorded-now w) ∙ is) ∙ ap (λ (x : ℕ). class_in g.checked (by_number s.calls (task_of s.calls x))) (sym (number-now w));
       made = (l.schedule classes).made;
@@ -278,15 +332,16 @@ module _ (g : Setup) (id : ℕ) (v : View) where
     finish-says q = frames g vs id v at q story m' after_finish refl (l.schedule q)
 
   -- finish: a running record of the hand by whose acts nothing is unplaced; the new word keeps its number
-  pub finishes-at : (r : Run) → Has r v.runs → r.unplaced ≡ 0 → 1 ≤ v.parts → (word : ℕ) → phase_of word ≡ 5 → number_of word ≡ r.number → IsStateWord word → (outcome : Outcome)
+  pub finishes-at : (r : Run) → Has r v.runs → r.unplaced ≡ 0 → 1 ≤ v.parts → (word : ℕ) (outcome : Outcome) → IsFinishWord v r word outcome
       → Keeps g id v (state r.unit) (λ n. word) (λ k w. FinishedTask r.unit r.task outcome v w)
-  finishes-at r has placed in_use word done numbered shape outcome m vs s l at small = (
-    after_finish m vs s l at r has placed in_use word done numbered shape outcome,
+  finishes-at r has placed in_use word outcome is m vs s l at small = (
+    after_finish m vs s l at r has placed in_use word is.done is.number is.shape outcome is.tag is.knows,
     (
-      story m vs s l at r has placed in_use word done numbered shape outcome,
+      story m vs s l at r has placed in_use word is.done is.number is.shape outcome is.tag is.knows,
+      one-end s (record { task = r.task; outcome = outcome }),
       record {
-        table = finish-table' m vs s l at r has placed in_use word done numbered shape outcome;
-        schedule = finish-says m vs s l at r has placed in_use word done numbered shape outcome;
+        table = finish-table' m vs s l at r has placed in_use word is.done is.number is.shape outcome is.tag is.knows;
+        schedule = finish-says m vs s l at r has placed in_use word is.done is.number is.shape outcome is.tag is.knows;
       },
     ),
     (m (state r.unit), r.class, refl, class-same),
@@ -294,4 +349,4 @@ module _ (g : Setup) (id : ℕ) (v : View) where
   )
     where
       class-same : (x : Run) → Has x v.runs → x.unit ≡ r.unit → x.class ≡ r.class
-      class-same x there same = ap (λ (y : Run). y.class) (only m vs s l at r has placed in_use word done numbered shape outcome x there (eq-eqb x.unit r.unit same))
+      class-same x there same = ap (λ (y : Run). y.class) (only m vs s l at r has placed in_use word is.done is.number is.shape outcome is.tag is.knows x there (eq-eqb x.unit r.unit same))

@@ -25,7 +25,7 @@ use Rattle.table_core.specs.declared.view.View.{View}
 use Rattle.table_core.proofs.FrameReads.{frame-some, length-group, words-within}
 use Rattle.table_core.proofs.ListFacts.{at_map, map_at}
 use Rattle.table_core.proofs.SightFacts.{sighted}
-use Rattle.schedule_rule.specs.Frames.{IsFrameOf, BagSound, needed}
+use Rattle.schedule_rule.specs.Frames.{IsFrameOf, BagSound, needed, front}
 use Rattle.schedule_rule.specs.Parts.{bags, seen, AllSay}
 
 -- two functions that agree on each member make the same list
@@ -48,6 +48,10 @@ pub frame-tasks : (p : Program) (calls : List Accepted) (tasks tasks' : ℕ → 
     → IsFrameOf p calls tasks n body → IsFrameOf p calls tasks' n body
 frame-tasks p calls tasks tasks' n (OfKind q) same is = is
 frame-tasks p calls tasks tasks' n (OfMembers units next) same is = (is.0 ∙ ap (λ (ms : List ℕ). Some (OfAll ms)) (map-agrees tasks tasks' units (λ x has. sym (same x has))), is.1)
+
+-- words that agree as far as a frame goes begin with the same frame
+pub front-same : (p : Program) (w w' : ℕ → ℕ) → ((k : ℕ) → k < frame_length p (w 0) → w' k ≡ w k) → front p w' ≡ front p w
+front-same p w w' same = ap (λ (c : ℕ). words_from w' 0 (frame_length p c)) (same 0 (frame-some p (w 0))) ∙ words-within w w' 0 (frame_length p (w 0)) (λ k low high. same k (omega (arith, high)))
 
 -- frames with the same words are of the same call
 pub frame-words : (p : Program) (calls : List Accepted) (tasks : ℕ → ℕ) (n : ℕ) (w w' : ℕ → ℕ) → ((k : ℕ) → k < frame_length p (w 0) → w' k ≡ w k)

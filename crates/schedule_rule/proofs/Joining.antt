@@ -26,9 +26,10 @@ use Rattle.schedule_rule.specs.Calls.{AtNumber, IsSo, task_of, after_of}
 use Rattle.schedule_rule.specs.Rows.{Unwritten, RowedSound, row_word, word_of_task, drawn_at}
 use Rattle.schedule_rule.specs.Numbers.{in_hand, in_hands, IsRun}
 use Rattle.schedule_rule.specs.Askers.{AskedSound, IsAsker}
-use Rattle.schedule_rule.specs.Frames.{IsFrameOf, BagSound}
-use Rattle.schedule_rule.specs.Counts.{lives_in}
-use Rattle.schedule_rule.specs.Parts.{Part, draws, names, callers, facts, rows, rowed, places, askers, framed, root_tasks, owners, running, live, classes, behind, bags, quiet, Seen, seen, Says, AllSay, Holds}
+use Rattle.schedule_rule.specs.Frames.{IsFrameOf, BagSound, IsFormed}
+use Rattle.schedule_rule.specs.Counts.{lives_in, CountedSound}
+use Rattle.schedule_rule.specs.Limits.{ToldSound}
+use Rattle.schedule_rule.specs.Parts.{Part, draws, names, callers, facts, rows, rowed, places, askers, framed, root_tasks, owners, running, live, classes, behind, bags, quiet, Seen, seen, Says, AllSay, Holds, formed, suited, results, begun, counted_lives, limits}
 use Rattle.schedule_rule.proofs.Rule.{holds_at}
 
 has-some : {A : Type 0} (l : List A) (x : A) → Has x l → 1 ≤ length l
@@ -179,13 +180,20 @@ module _ (g : Setup) (m : Mem) (vs : List View) (s : Story) (l : (q : Part) → 
   joined_parts askers =
       let was : AskedSound s.calls g.plan (seen askers v) = mine askers (AskedSound s.calls g.plan) (l askers) in
       each-after askers (AskedSound s.calls g.plan) (l askers)
-      (record { asker = λ k d there. let t = was.asker k d there in (still-asks d.number d.asker t.0, t.1); made = was.made; unplaced = was.unplaced })
-      (record { asker = each-none _; made = each-none _; unplaced = each-none _ })
+      (record { asker = λ k d there. let t = was.asker k d there in (still-asks d.number d.asker t.0, t.1); made = was.made; unplaced = was.unplaced; one = was.one; asked = was.asked })
+      (record { asker = each-none _; made = each-none _; unplaced = each-none _; one = each-none _; asked = each-none _ })
   joined_parts framed = record {
     saved = (l framed).saved;
     running = each-after framed (Each (λ (r : Run). IsFrameOf g.checked s.calls (λ u. m (task u)) r.number (body_at g.checked (slice_index r.words)))) (l framed).running
         (mine framed _ (l framed).running) (each-none _);
   }
+  joined_parts formed = record {
+    saved = (l formed).saved;
+    running = each-after formed (Each (λ (r : Run). IsFormed g.checked (slice_index r.words))) (l formed).running (mine formed _ (l formed).running) (each-none _);
+  }
+  joined_parts suited = l suited
+  joined_parts results = l results
+  joined_parts begun = l begun
   joined_parts root_tasks = record {
     own = (l root_tasks).own;
     are = (l root_tasks).are;
@@ -213,32 +221,37 @@ module _ (g : Setup) (m : Mem) (vs : List View) (s : Story) (l : (q : Part) → 
     l live,
     sum-same live lives_in (omega (arith, ap (total (λ (r : Made). one_if r.live)) only.made, ap (total (λ (d : Done). cond d.out 0 1)) only.done)) refl,
   )
+  joined_parts counted_lives = each-after counted_lives CountedSound (l counted_lives) (mine counted_lives _ (l counted_lives)) (record { made = each-none _; done = each-none _ })
   joined_parts classes = record { records = (l classes).records; made = each-after classes _ (l classes).made (mine classes _ (l classes).made) (each-none _) }
   joined_parts behind = record {
     listed_behind = (l behind).listed_behind;
     chained_behind = each-after behind _ (l behind).chained_behind (mine behind _ (l behind).chained_behind) (each-none _);
   }
   joined_parts bags = each-after bags (BagSound g.checked) (l bags) (mine bags _ (l bags)) (record { pairs = []; are_runs = refl; covers = each-none _; enough = λ u. omega arith })
+  joined_parts limits =
+      let was : ToldSound g.plan.limit s.calls (seen limits v) = mine limits _ (l limits).told in
+      let others : ToldSound g.plan.limit s.calls (seen limits w) = (l limits).told other (seen limits w) (at_map (seen limits) vs other w at') in
+      record {
+        told = each-after limits _ (l limits).told (record { answers = was.answers; roots = each-append _ w.turn v.turn others.roots was.roots }) (record { answers = each-none _; roots = each-none _ });
+        ended = (l limits).ended;
+      }
   joined_parts quiet = each-after quiet _ (l quiet) (λ some. one_quiet some) (λ some. absurd (omega (arith, some)))
 
   pub joined-says : (q : Part) → Says g q s m (map (seen q) (slice_set (slice_set vs id one) other spent))
   joined-says q = subst (Says g q s m) (sym (map-set (seen q) (slice_set vs id one) other spent ∙ ap (λ (xs : List (Seen q)). slice_set xs other (seen q spent)) (map-set (seen q) vs id one))) (joined_parts q)
 
 -- a pass may take in one that has nothing but blocks
-pub join-holds : (g : Setup) (ws : List ℕ) (vs : List View) (id other : ℕ) (v w : View) → Holds g ws vs → At vs id v → At vs other w → id ≢ other → 1 ≤ v.parts → HasOnlyBlocks w
+pub join-all : (g : Setup) (s : Story) (m : Mem) (vs : List View) (id other : ℕ) (v w : View) → AllSay g s m vs → At vs id v → At vs other w → id ≢ other → 1 ≤ v.parts → HasOnlyBlocks w
+    → AllSay g s m (slice_set (slice_set vs id (joined v w)) other spent)
+join-all g s m vs id other v w l at at' two in_use only = record {
+  table = table-join g m vs s l.table id other v w at at' two in_use only;
+  schedule = joined-says g m vs s l.schedule (l.table roots).one id other v w at at' two only;
+}
+
+-- the same of the words as they lie
+join-holds : (g : Setup) (ws : List ℕ) (vs : List View) (id other : ℕ) (v w : View) → Holds g ws vs → At vs id v → At vs other w → id ≢ other → 1 ≤ v.parts → HasOnlyBlocks w
     → Holds g ws (slice_set (slice_set vs id (joined v w)) other spent)
-join-holds g ws vs id other v w holds at at' two in_use only =
-    let m : Mem = mem_of g.plan ws in let s : Story = holds.1.0 in let l : AllSay g s m vs = holds.1.1 in (
-      holds.0,
-      (
-        s,
-        record {
-          table = table-join g m vs s l.table id other v w at at' two in_use only;
-          schedule = joined-says g m vs s l.schedule (l.table roots).one id other v w at at' two only;
-        },
-      ),
-      holds.2,
-    )
+join-holds g ws vs id other v w holds at at' two in_use only = (holds.0, (holds.1.0, join-all g holds.1.0 (mem_of g.plan ws) vs id other v w holds.1.1 at at' two in_use only), holds.2)
 
 pub joins : (g : Setup) (id : ℕ) (v : View) (other : ℕ) (w : View) → 1 ≤ v.parts → HasOnlyBlocks w → Joins (holds_at g) id v other w (joined v w) spent
 joins g id v other w in_use only st holds at apart at' =

@@ -16,7 +16,7 @@ use Rattle.table_core.specs.declared.view.View.{View}
 use Rattle.table_core.proofs.ListFacts.{at_map}
 use Rattle.table_core.proofs.BagFacts.{record-from}
 use Rattle.schedule_rule.specs.Calls.{IsTaskOf, IsBefore, NamesEarlier}
-use Rattle.schedule_rule.specs.DrawViews.{KnowsTask, KnowsCall}
+use Rattle.schedule_rule.specs.DrawViews.{KnowsTask, KnowsNamed}
 use Rattle.schedule_rule.specs.Parts.{names, owners, AllSay}
 use Rattle.schedule_rule.proofs.StoryFacts.{new, task-of-number}
 
@@ -47,7 +47,7 @@ module _ (g : Setup) (id : ℕ) (v : View) (m : Mem) (vs : List View) (s : Story
   known-some a (Some t) knows = known-before a t knows
 
   -- so the next call names earlier tasks, where all that it names are known
-  pub known-call : (a : Accepted) → KnowsCall v a → NamesEarlier s.calls (new s.calls a) a
+  pub known-call : (a : Accepted) → KnowsNamed v a → NamesEarlier s.calls (new s.calls a) a
   known-call (OfCall call waits) knows = ((λ k o there. known-some (OfCall call waits) o (knows.0 k o there)), known-some (OfCall call waits) waits knows.1)
   known-call (OfAll members) knows = (knows.0, knows.1, (λ k t there. known-before (OfAll members) t (knows.2 k t there)))
   known-call (Respawn t waits) knows = absurd knows

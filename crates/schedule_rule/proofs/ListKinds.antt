@@ -33,12 +33,12 @@ use Rattle.table_core.proofs.WaitFacts.{chain-waits}
 use Rattle.table_core.proofs.WaitKinds.{IsRest, unchain-parts as unchain-table, unchains-at as table-unchains}
 use Rattle.table_core.proofs.WaiterFacts.{each-with}
 use Rattle.schedule_rule.specs.Calls.{AtNumber, after_in, after_of, IsNumber, IsComplete, Ended, IsSo}
-use Rattle.schedule_rule.specs.Counts.{lives_in}
+use Rattle.schedule_rule.specs.Counts.{lives_in, CountedSound}
 use Rattle.schedule_rule.specs.LifeViews.{knowing, MayStart, Unchained}
-use Rattle.schedule_rule.specs.Parts.{Part, facts, owners, live, behind, seen, Says, AllSay, Keeps}
+use Rattle.schedule_rule.specs.Parts.{Part, facts, owners, live, behind, seen, Says, AllSay, Keeps, counted_lives}
 use Rattle.schedule_rule.proofs.KnowingFacts.{table-knowing, done-complete, facts-known}
 use Rattle.schedule_rule.proofs.RecordKinds.{chained-waits}
-use Rattle.schedule_rule.proofs.Rule.{frames, moves}
+use Rattle.schedule_rule.proofs.Rule.{frames, moves, same-story}
 use Rattle.schedule_rule.proofs.StateFacts.{saved-record}
 
 head-here : (m : Mem) (u n : ℕ) → put m (head u) n (head u) ≡ n
@@ -53,6 +53,15 @@ outs-close_in u (d ∷ l) = by (d.unit == u) (outs-close_in u l)
         → total (λ (x : Done). cond x.out 0 1) (cond b (record d { closed = true } ∷ l) (d ∷ close_in u l)) ≡ cond d.out 0 1 + total (λ (x : Done). cond x.out 0 1) l
     by true rest = refl
     by false rest = ap (λ (n : ℕ). cond d.out 0 1 + n) rest
+
+-- what is counted out has a closed list still
+counted-close_in : (u : ℕ) (l : List Done) → Each (λ (d : Done). d.out ≡ true → d.closed ≡ true) l → Each (λ (d : Done). d.out ≡ true → d.closed ≡ true) (close_in u l)
+counted-close_in u [] all = all
+counted-close_in u (d ∷ l) all = by (d.unit == u) (counted-close_in u l (each-tail _ d l all))
+  where
+    by : (b : Bool) → Each (λ (x : Done). x.out ≡ true → x.closed ≡ true) (close_in u l) → Each (λ (x : Done). x.out ≡ true → x.closed ≡ true) (cond b (record d { closed = true } ∷ l) (d ∷ close_in u l))
+    by true rest = each-cons _ (record d { closed = true }) l (λ _. refl) (each-tail _ d l all)
+    by false rest = each-cons _ d (close_in u l) (all 0 d refl) rest
 
 -- what is known of a waiter that may start: its call, and the end of its predecessor
 abbrev over-facts : Option ℕ → Outcome → List Fact
@@ -115,6 +124,9 @@ module _ (g : Setup) (id : ℕ) (v : View) where
       close-says : (q : Part) → Says g q s (put m (head u) closed_word) (map (seen q) (slice_set vs id after_close))
       close-says live = moves g vs id v at live s (put m (head u) closed_word) after_close
           (omega (arith, l.schedule live, total-set lives_in (map (seen live) vs) id (seen live v) (seen live after_close) (at_map (seen live) vs id v at), outs-close_in u v.done))
+      close-says counted_lives = moves g vs id v at counted_lives s (put m (head u) closed_word) after_close
+          (let was : CountedSound (seen counted_lives v) = l.schedule counted_lives id (seen counted_lives v) (at_map (seen counted_lives) vs id v at) in
+          each-set CountedSound (map (seen counted_lives) vs) id (seen counted_lives after_close) (l.schedule counted_lives) (record { made = was.made; done = counted-close_in u v.done was.done }))
       close-says behind = moves g vs id v at behind s (put m (head u) closed_word) after_close (record {
         listed_behind = λ k w near there. (l.schedule behind).listed_behind k w near (listed-was k w there);
         chained_behind = each-set _ (map (seen behind) vs) id (seen behind after_close) (l.schedule behind).chained_behind (each-with _ taken v.chains taken-behind was_behind);
@@ -184,7 +196,7 @@ module _ (g : Setup) (id : ℕ) (v : View) where
       → Keeps g id v (head d.unit) (λ n. closed_word) (λ r w. (members : List ℕ) × (w ≡ saw (head d.unit) r (closed_list d.unit members v)) × IsTaken g.plan r members)
   closes-at d has unclosed in_use m vs s l at small = (
     after_close m vs s l at d has,
-    (s, record { table = close-table g id v m vs s l.table at d has unclosed in_use; schedule = close-says m vs s l at d has }),
+    (s, same-story s, record { table = close-table g id v m vs s l.table at d has unclosed in_use; schedule = close-says m vs s l at d has }),
     (taken m vs s l at d has, refl, close-taken g id v m vs s l.table at d has unclosed in_use),
     (refl, refl),
   )
@@ -196,6 +208,7 @@ module _ (g : Setup) (id : ℕ) (v : View) where
     after_unchain m vs s l at u members has,
     (
       s,
+      same-story s,
       record {
         table = table-knowing g s (put m (next u) (m (next u))) vs id (more m vs s l at u members has) (saw (next u) (m (next u)) (unchained u (number m vs s l at u members has) members v))
             (kept_word g s m (next u) (m (next u)) _ refl (unchain-table g id v m vs s l.table at u members has in_use));

@@ -33,9 +33,9 @@ use Rattle.table_core.proofs.WaitSteps.{lists-stay}
 use Rattle.table_core.proofs.WaitKinds.{see-parts as see-table, sees-head-at as table-sees-head, link-parts as link-table}
 use Rattle.schedule_rule.specs.Calls.{after_in, after_of, IsSo}
 use Rattle.schedule_rule.specs.LifeViews.{knowing, KnowsBehind, SawOver, TellsClosed, SawHeadOf, TriedJoin}
-use Rattle.schedule_rule.specs.Parts.{Part, facts, behind, seen, Says, AllSay, Keeps}
+use Rattle.schedule_rule.specs.Parts.{Part, facts, behind, seen, Says, AllSay, Keeps, LawfulAfter}
 use Rattle.schedule_rule.proofs.KnowingFacts.{table-knowing, done-complete, facts-known, has-append}
-use Rattle.schedule_rule.proofs.Rule.{frames, moves}
+use Rattle.schedule_rule.proofs.Rule.{frames, moves, same-story}
 
 -- a record that neither waits nor is ready nor runs is done
 not-live : (word : ℕ) → is_record word ≡ true → is_live word ≡ false → phase_of word ≡ 5
@@ -189,6 +189,7 @@ module _ (g : Setup) (id : ℕ) (v : View) where
         after_look m vs s l at u has v.tries,
         (
           s,
+          same-story s,
           record {
             table = table-knowing g s (put m (head u) (m (head u))) vs id (learns m vs s l at u has).0 (saw (head u) (m (head u)) (saw_head u (m (head u)) v))
                 (kept_word g s m (head u) (m (head u)) _ refl (see-table g id v m vs s l.table at u has));
@@ -204,7 +205,7 @@ module _ (g : Setup) (id : ℕ) (v : View) where
       → Keeps g id v (next x.unit) (λ n. link_of seen_head) (λ r w. (n : ℕ) × (w ≡ saw (next x.unit) n (linked x.unit seen_head v)))
   links-at x has in_use seen_head m vs s l at small = (
     saw (next x.unit) (m (next x.unit)) (linked x.unit seen_head v),
-    (s, record { table = link-table g id v m vs s l.table at x has in_use seen_head; schedule = link-says m vs s l at x has seen_head }),
+    (s, same-story s, record { table = link-table g id v m vs s l.table at x has in_use seen_head; schedule = link-says m vs s l at x has seen_head }),
     (m (next x.unit), refl),
     (refl, refl),
   )
@@ -217,14 +218,15 @@ module _ (g : Setup) (id : ℕ) (v : View) where
   joins-at u has x has_waiter knows in_use old new linked_to unclosed saw_it new_is m vs s l at small =
       let told = (table-joins g id v u has x has_waiter in_use old new linked_to unclosed saw_it new_is m vs s l.table at small).2 in
       exchanged (m (head u)) old new
-      (λ n. (w : View) × ((s' : Story) × AllSay g s' (put m (head u) n) (slice_set vs id w))
+      (λ n. (w : View) × LawfulAfter g s (put m (head u) n) (slice_set vs id w)
       × (TriedJoin u x.unit old v (m (head u)) w × IsHeadWord (m (head u)) × IsLater old (m (head u)) × (m (head u) ≢ closed_word → length_of (m (head u)) ≤ units_of g.plan))
       × Stepped (head u) (m (head u)) v w)
       (λ e. (
         saw (head u) (m (head u)) (joined_list x.unit v),
-        subst (λ (n : ℕ). (s' : Story) × AllSay g s' (put m (head u) n) (slice_set vs id (saw (head u) (m (head u)) (joined_list x.unit v))))
+        subst (λ (n : ℕ). LawfulAfter g s (put m (head u) n) (slice_set vs id (saw (head u) (m (head u)) (joined_list x.unit v))))
             (sym (new_is ∙ ap (λ (n : ℕ). head_word (x.unit + 1) (length_of n + 1)) (sym e))) (
               s,
+              same-story s,
               record {
                 table = join-table g id v m vs s l.table at u has x has_waiter (linked_to ∙ ap Some (sym e)) (λ c. unclosed (sym e ∙ c)) in_use;
                 schedule = join-says m vs s l at u has x has_waiter (linked_to ∙ ap Some (sym e)) (λ c. unclosed (sym e ∙ c)) in_use knows;
@@ -237,6 +239,7 @@ module _ (g : Setup) (id : ℕ) (v : View) where
         after_look m vs s l at u has (v.tries + 1),
         (
           s,
+          same-story s,
           record {
             table = table-knowing g s (put m (head u) (m (head u))) vs id (learns m vs s l at u has).0 (saw (head u) (m (head u)) (saw_head u (m (head u)) (tried v)))
                 (kept_word g s m (head u) (m (head u)) _ refl (try-table g id v m vs s l.table at u has));

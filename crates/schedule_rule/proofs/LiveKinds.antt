@@ -28,12 +28,12 @@ use Rattle.table_core.proofs.ReferenceBound.{units-few, in-few}
 use Rattle.table_core.proofs.Rule.{frames as table_frames, moves as table_moves}
 use Rattle.table_core.proofs.WaitFacts.{IsWaitHand, wait-hands, waits-hand}
 use Rattle.schedule_rule.specs.Askers.{IsAsker, IsFirstOf, AskedSound}
-use Rattle.schedule_rule.specs.Counts.{lives_in}
+use Rattle.schedule_rule.specs.Counts.{lives_in, CountedSound}
 use Rattle.schedule_rule.specs.DrawViews.{changed}
 use Rattle.schedule_rule.specs.LifeViews.{count_in, count_out, counted_in, counted_out}
-use Rattle.schedule_rule.specs.Parts.{Part, draws, askers, live, classes, quiet, seen, Says, AllSay, Keeps}
-use Rattle.schedule_rule.proofs.LiveFacts.{total-kept, any-kept, map-kept, each-kept, has-kept, total-changed, counted-below, at-most-one, asked-few}
-use Rattle.schedule_rule.proofs.Rule.{frames, moves}
+use Rattle.schedule_rule.specs.Parts.{Part, draws, askers, live, classes, quiet, seen, Says, AllSay, Keeps, counted_lives}
+use Rattle.schedule_rule.proofs.LiveFacts.{each-changed, total-kept, any-kept, map-kept, each-kept, has-kept, total-changed, counted-below, at-most-one, asked-few}
+use Rattle.schedule_rule.proofs.Rule.{frames, moves, same-story}
 
 -- 1 where a done record counts as living still
 abbrev still : Bool → ℕ
@@ -120,10 +120,13 @@ module _ (g : Setup) (id : ℕ) (v : View) where
       few : made_at r.unit v.made ≤ 1
       few = omega (arith, (l.table own).made r.unit, in-few g m vs s l.table 1 r.unit, total-member (λ (h : Hands). made_at r.unit h.made) owners id (table_seen own v) owner_at)
 
-      only : (x : Made) → Has x v.made → is_made_at r.unit x ≡ true → (one_if x.live ≡ 0) × (one_if (count_in x).live ≡ 1)
-      only x there here =
+      only-made : (x : Made) → Has x v.made → is_made_at r.unit x ≡ true → x ≡ r
+      only-made x there here =
           let same = passing-one (is_made_at r.unit) v.made there.0 has.0 x r few there.1 here has.1 (eq-eqb r.unit r.unit refl) in
-          (ap one_if (ap (λ (y : Made). y.live) (same_some x r (sym there.1 ∙ ap (slice_get v.made) same ∙ has.1)) ∙ uncounted), refl)
+          same_some x r (sym there.1 ∙ ap (slice_get v.made) same ∙ has.1)
+
+      only : (x : Made) → Has x v.made → is_made_at r.unit x ≡ true → (one_if x.live ≡ 0) × (one_if (count_in x).live ≡ 1)
+      only x there here = (ap one_if (ap (λ (y : Made). y.live) (only-made x there here) ∙ uncounted), refl)
 
       counts-more : total (λ (x : Made). one_if x.live) made + 0 ≡ total (λ (x : Made). one_if x.live) v.made + 1
       counts-more = total-changed (is_made_at r.unit) count_in (λ (x : Made). one_if x.live) 0 1 v.made only (record { member = r; there = has; passes = eq-eqb r.unit r.unit refl })
@@ -172,6 +175,8 @@ module _ (g : Setup) (id : ℕ) (v : View) where
             asker = λ k d there. let t = was_asked.asker k d there in (t.0, elim t.1 [ inl y ↦ inl (first d y.0 y.1 y.2) | inr y ↦ inr y ]);
             made = each-kept (is_made_at r.unit) count_in _ (λ x is. is) v.made was_asked.made;
             unplaced = was_asked.unplaced;
+            one = was_asked.one;
+            asked = was_asked.asked;
           }))
         where
           first : (d : Drawn) (y : Made) → Has y v.made → IsFirstOf s.calls d y → (z : Made) × Has z made × IsFirstOf s.calls d z
@@ -184,6 +189,9 @@ module _ (g : Setup) (id : ℕ) (v : View) where
             ],
           )
       in-says live = moves g vs id v at live s m' after_in (omega (arith, word-is, l.schedule live, counts-more, total-set lives_in (map (seen live) vs) id (seen live v) (seen live after_in) lives_at))
+      in-says counted_lives = moves g vs id v at counted_lives s m' after_in
+          (let was : CountedSound (seen counted_lives v) = l.schedule counted_lives id (seen counted_lives v) (at_map (seen counted_lives) vs id v at) in
+          each-set CountedSound (map (seen counted_lives) vs) id (seen counted_lives after_in) (l.schedule counted_lives) (record { made = each-changed (is_made_at r.unit) count_in (λ (x : Made). x.live ≡ true → x.number ≢ 0) v.made (λ x there here _ _. subst (λ (y : Made). y.number ≢ 0) (sym (only-made x there here)) some) was.made; done = was.done }))
       in-says classes = moves g vs id v at classes s m' after_in (record {
         records = (l.schedule classes).records;
         made = each-set _ (map (seen classes) vs) id made (l.schedule classes).made (each-kept (is_made_at r.unit) count_in _ (λ x is. is) v.made ((l.schedule classes).made id v.made (at_map (seen classes) vs id v at)));
@@ -192,7 +200,7 @@ module _ (g : Setup) (id : ℕ) (v : View) where
       in-says q = frames g vs id v at q s m' after_in refl (l.schedule q)
 
     -- count out
-    module _ (d : Done) (has : Has d v.done) (counted : d.out ≡ false) (in_use : 1 ≤ v.parts) where
+    module _ (d : Done) (has : Has d v.done) (counted : d.out ≡ false) (closed : d.closed ≡ true) (in_use : 1 ≤ v.parts) where
       abbrev word_out : ℕ
       word_out = (m (sum 1) + (2 ^ 64 - 1)) % 2 ^ 64
 
@@ -208,10 +216,13 @@ module _ (g : Setup) (id : ℕ) (v : View) where
       done-few : done_at d.unit v.done ≤ 1
       done-few = omega (arith, (l.table own).done d.unit, in-few g m vs s l.table 5 d.unit, total-member (λ (h : Hands). done_at d.unit h.done) owners id (table_seen own v) owner_at)
 
-      only-done : (x : Done) → Has x v.done → is_done_at d.unit x ≡ true → (still x.out ≡ 1) × (still (count_out x).out ≡ 0)
-      only-done x there here =
+      one-done : (x : Done) → Has x v.done → is_done_at d.unit x ≡ true → x ≡ d
+      one-done x there here =
           let same = passing-one (is_done_at d.unit) v.done there.0 has.0 x d done-few there.1 here has.1 (eq-eqb d.unit d.unit refl) in
-          (ap still (ap (λ (y : Done). y.out) (same_some x d (sym there.1 ∙ ap (slice_get v.done) same ∙ has.1)) ∙ counted), refl)
+          same_some x d (sym there.1 ∙ ap (slice_get v.done) same ∙ has.1)
+
+      only-done : (x : Done) → Has x v.done → is_done_at d.unit x ≡ true → (still x.out ≡ 1) × (still (count_out x).out ≡ 0)
+      only-done x there here = (ap still (ap (λ (y : Done). y.out) (one-done x there here) ∙ counted), refl)
 
       counts-less : total (λ (x : Done). cond x.out 0 1) done + 1 ≡ total (λ (x : Done). cond x.out 0 1) v.done + 0
       counts-less = total-changed (is_done_at d.unit) count_out (λ (x : Done). cond x.out 0 1) 1 0 v.done only-done (record { member = d; there = has; passes = eq-eqb d.unit d.unit refl })
@@ -256,6 +267,9 @@ module _ (g : Setup) (id : ℕ) (v : View) where
 
       out-says : (q : Part) → Says g q s m_out (map (seen q) (slice_set vs id after_out))
       out-says live = moves g vs id v at live s m_out after_out (omega (arith, word-less, l.schedule live, counts-less, total-set lives_in (map (seen live) vs) id (seen live v) (seen live after_out) lives_at))
+      out-says counted_lives = moves g vs id v at counted_lives s m_out after_out
+          (let was : CountedSound (seen counted_lives v) = l.schedule counted_lives id (seen counted_lives v) (at_map (seen counted_lives) vs id v at) in
+          each-set CountedSound (map (seen counted_lives) vs) id (seen counted_lives after_out) (l.schedule counted_lives) (record { made = was.made; done = each-changed (is_done_at d.unit) count_out (λ (x : Done). x.out ≡ true → x.closed ≡ true) v.done (λ x there here _ _. ap (λ (y : Done). y.closed) (one-done x there here) ∙ closed) was.done }))
       out-says quiet = frames g vs id v at quiet s m_out after_out refl (λ k n there is. let t = l.schedule quiet k n there is in absurd (omega (arith, t.0, living)))
       out-says q = frames g vs id v at q s m_out after_out refl (l.schedule q)
 
@@ -276,16 +290,16 @@ module _ (g : Setup) (id : ℕ) (v : View) where
   pub counts-in-at : (r : Made) → Has r v.made → r.live ≡ false → r.number ≢ 0 → 1 ≤ v.parts → Keeps g id v (sum 1) (λ n. (n + 1) % 2 ^ 64) (λ k w. w ≡ saw (sum 1) k (counted_in r.unit v))
   counts-in-at r has uncounted some in_use m vs s l at small = (
     after_in m vs s l at r has uncounted some in_use,
-    (s, record { table = in-table m vs s l at r has uncounted some in_use; schedule = in-says m vs s l at r has uncounted some in_use }),
+    (s, same-story s, record { table = in-table m vs s l at r has uncounted some in_use; schedule = in-says m vs s l at r has uncounted some in_use }),
     refl,
     (refl, refl),
   )
 
   -- count out: a done record that is counted still
-  pub counts-out-at : (d : Done) → Has d v.done → d.out ≡ false → 1 ≤ v.parts → Keeps g id v (sum 1) (λ n. (n + (2 ^ 64 - 1)) % 2 ^ 64) (λ k w. w ≡ saw (sum 1) k (counted_out d.unit v))
-  counts-out-at d has counted in_use m vs s l at small = (
-    after_out m vs s l at d has counted in_use,
-    (s, record { table = out-table m vs s l at d has counted in_use; schedule = out-says m vs s l at d has counted in_use }),
+  pub counts-out-at : (d : Done) → Has d v.done → d.out ≡ false → d.closed ≡ true → 1 ≤ v.parts → Keeps g id v (sum 1) (λ n. (n + (2 ^ 64 - 1)) % 2 ^ 64) (λ k w. w ≡ saw (sum 1) k (counted_out d.unit v))
+  counts-out-at d has counted closed in_use m vs s l at small = (
+    after_out m vs s l at d has counted closed in_use,
+    (s, same-story s, record { table = out-table m vs s l at d has counted closed in_use; schedule = out-says m vs s l at d has counted closed in_use }),
     refl,
     (refl, refl),
   )
@@ -294,7 +308,7 @@ module _ (g : Setup) (id : ℕ) (v : View) where
   pub spills-at : Keeps g id v (sum 4) (λ n. 1) (λ k w. (n : ℕ) × (w ≡ saw (sum 4) n v))
   spills-at m vs s l at small = (
     after_spill m vs s l at 1,
-    (s, record { table = spill-table m vs s l at 1; schedule = spill-says m vs s l at 1 }),
+    (s, same-story s, record { table = spill-table m vs s l at 1; schedule = spill-says m vs s l at 1 }),
     (m (sum 4), refl),
     (refl, refl),
   )

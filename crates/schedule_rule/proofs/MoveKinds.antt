@@ -27,13 +27,13 @@ use Rattle.table_core.proofs.OwnFacts.{IsHand, hands-from, own-moved}
 use Rattle.table_core.proofs.PoolKinds.{bounded}
 use Rattle.table_core.proofs.ReferenceBound.{in-few}
 use Rattle.table_core.proofs.Rule.{frames as table_frames, moves as table_moves}
-use Rattle.schedule_rule.specs.Askers.{IsAsker, IsNextOf, IsForRecord, AskedSound}
+use Rattle.schedule_rule.specs.Askers.{IsAsker, IsNextOf, HasNext, IsForRecord, AskedSound}
 use Rattle.schedule_rule.specs.Calls.{task_of}
 use Rattle.schedule_rule.specs.DrawViews.{changed}
-use Rattle.schedule_rule.specs.Frames.{IsFrameOf, BagSound}
+use Rattle.schedule_rule.specs.Frames.{IsFrameOf, BagSound, IsFormed}
 use Rattle.schedule_rule.specs.LifeViews.{with_words, moved_on, IsMovedFrame}
 use Rattle.schedule_rule.specs.Numbers.{in_hands}
-use Rattle.schedule_rule.specs.Parts.{Part, draws, rowed, askers, framed, owners, running, bags, seen, Says, AllSay}
+use Rattle.schedule_rule.specs.Parts.{Part, draws, rowed, askers, framed, owners, running, bags, seen, Says, AllSay, formed}
 use Rattle.schedule_rule.specs.Rows.{RowedSound}
 use Rattle.schedule_rule.proofs.LiveFacts.{total-kept, any-kept, each-kept, each-changed, has-kept}
 use Rattle.schedule_rule.proofs.Rule.{frames, moves}
@@ -127,6 +127,10 @@ module _ (g : Setup) (id : ℕ) (v : View) (m : Mem) (vs : List View) (s : Story
     ],
   )
 
+  -- a number that a run drew for itself is so where its frame has moved
+  next-still : (d : Drawn) (x : Run) → IsNextOf s.calls d x → IsNextOf s.calls d (with_words next x)
+  next-still d x is = record { unit = is.unit; asked = is.asked; asker = is.asker; task = is.task; next = is.next }
+
   for-still : (d : Drawn) → IsForRecord s.calls (seen askers v) d → IsForRecord s.calls (seen askers after_move) d
   for-still d (inl it) = inl it
   for-still d (inr it) = let t = has-kept (is_run_at u) (with_words next) it.0 v.runs it.1 in inr (
@@ -134,7 +138,7 @@ module _ (g : Setup) (id : ℕ) (v : View) (m : Mem) (vs : List View) (s : Story
     t.1,
     elim t.2 [
       | inl e ↦ subst (IsNextOf s.calls d) (sym e) it.2
-      | inr e ↦ subst (IsNextOf s.calls d) (sym e) (record { unit = it.2.unit; asked = it.2.asked; asker = it.2.asker; task = it.2.task; next = it.2.next })
+      | inr e ↦ subst (IsNextOf s.calls d) (sym e) (next-still d it.0 it.2)
     ],
   )
 
@@ -148,6 +152,8 @@ module _ (g : Setup) (id : ℕ) (v : View) (m : Mem) (vs : List View) (s : Story
         asker = λ k d there. let t = was_asked.asker k d there in (asker-still d.number d.asker t.0, for-still d t.1);
         made = was_asked.made;
         unplaced = each-kept (is_run_at u) (with_words next) _ (λ x it. it) v.runs was_asked.unplaced;
+        one = each-kept (is_run_at u) (with_words next) _ (λ x it. it) v.runs was_asked.one;
+        asked = each-kept (is_run_at u) (with_words next) (λ (x : Run). x.asked ≡ true → HasNext s.calls v.drawn x) (λ x it e. let t = it e in (t.0, t.1, next-still t.0 x t.2)) v.runs was_asked.asked;
       }))
   move-says framed = moves g vs id v at framed s m after_move (record {
     saved = (l.schedule framed).saved;
@@ -156,6 +162,11 @@ module _ (g : Setup) (id : ℕ) (v : View) (m : Mem) (vs : List View) (s : Story
         (λ x there here of. moved-frame g.checked r.words next is s.calls (λ w. m (task w)) x.number
         (subst (λ (y : Run). IsFrameOf g.checked s.calls (λ w. m (task w)) x.number (body_at g.checked (slice_index y.words))) (only x there here) of))
         ((l.schedule framed).running id v.runs (at_map (seen framed) vs id v at)));
+  })
+  move-says formed = moves g vs id v at formed s m after_move (record {
+    saved = (l.schedule formed).saved;
+    running = each-set _ (map (seen formed) vs) id runs (l.schedule formed).running
+        (each-changed (is_run_at u) (with_words next) (λ (x : Run). IsFormed g.checked (slice_index x.words)) v.runs (λ x there here was. is.formed) ((l.schedule formed).running id v.runs (at_map (seen formed) vs id v at)));
   })
   move-says owners = moves g vs id v at owners s m after_move (record {
     is_of = (l.schedule owners).is_of;

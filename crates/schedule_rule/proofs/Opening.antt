@@ -16,7 +16,7 @@ use Rattle.table_core.proofs.ListFacts.{each-cons, each-none}
 use Rattle.table_core.proofs.Opening.{zeros, mem-zeros, below-zeros, first_parts}
 use Rattle.schedule_rule.specs.Calls.{task_of, after_of, is_number, IsTaskOf}
 use Rattle.schedule_rule.specs.Rows.{row_word, word_of_task}
-use Rattle.schedule_rule.specs.Parts.{Part, draws, names, callers, facts, rows, rowed, places, askers, framed, root_tasks, owners, running, live, classes, behind, bags, quiet, seen, Says, Holds, UnwrittenAreZero}
+use Rattle.schedule_rule.specs.Parts.{Part, draws, names, callers, facts, rows, rowed, places, askers, framed, root_tasks, owners, running, live, classes, behind, bags, quiet, seen, Says, Holds, UnwrittenAreZero, formed, suited, results, begun, counted_lives, limits}
 
 -- before the first step nothing has a number
 pub no_number : (n : ℕ) → is_number [] n ≡ false
@@ -54,8 +54,12 @@ module _ (g : Setup) where
   }
   opened_parts rowed = each-cons _ (seen rowed first_view) [] (record { task = λ n. omega arith; after = λ n. omega arith; runs = each-none _ }) (each-none _)
   opened_parts places = λ n. omega (arith, below-zeros (units_of g.plan), ap one_if (no_number n))
-  opened_parts askers = each-cons _ (seen askers first_view) [] (record { asker = each-none _; made = each-none _; unplaced = each-none _ }) (each-none _)
+  opened_parts askers = each-cons _ (seen askers first_view) [] (record { asker = each-none _; made = each-none _; unplaced = each-none _; one = each-none _; asked = each-none _ }) (each-none _)
   opened_parts framed = record { saved = λ u near is. absurd (true≢false (sym is)); running = each-cons _ [] [] (each-none _) (each-none _) }
+  opened_parts formed = record { saved = λ u near is. absurd (true≢false (sym is)); running = each-cons _ [] [] (each-none _) (each-none _) }
+  opened_parts suited = each-none _
+  opened_parts begun = λ u near is. absurd (true≢false (sym is))
+  opened_parts results = λ u near done. absurd (omega (arith, done))
   opened_parts root_tasks = record {
     own = [];
     are = λ at root t line e. absurd (none_future at t e);
@@ -75,9 +79,14 @@ module _ (g : Setup) where
   }
   opened_parts running = each-cons _ [] [] (each-none _) (each-none _)
   opened_parts live = omega (arith, below-zeros (units_of g.plan))
+  opened_parts counted_lives = each-cons _ (seen counted_lives first_view) [] (record { made = each-none _; done = each-none _ }) (each-none _)
   opened_parts classes = record { records = λ u near is. absurd (true≢false (sym is)); made = each-cons _ [] [] (each-none _) (each-none _) }
   opened_parts behind = record { listed_behind = λ u w near has. absurd (none_there w has.1); chained_behind = each-cons _ [] [] (each-none _) (each-none _) }
   opened_parts bags = each-cons _ (seen bags first_view) [] (record { pairs = []; are_runs = refl; covers = each-none _; enough = λ u. omega arith }) (each-none _)
+  opened_parts limits = record {
+    told = each-cons _ (seen limits first_view) [] (record { answers = each-none _; roots = each-cons _ [] [] (each-none _) (each-none _) }) (each-none _);
+    ended = each-none _;
+  }
   opened_parts quiet = each-cons _ (seen quiet first_view) [] (λ some. absurd (omega (arith, some))) (each-none _)
 
   pub holds-first : (n : ℕ) → n ≡ words_of g.plan → Holds g (replicate n 0) (first_view ∷ [])

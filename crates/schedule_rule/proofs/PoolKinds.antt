@@ -25,7 +25,7 @@ use Rattle.table_core.proofs.ClassFacts.{record-phase, classes-stay}
 use Rattle.table_core.proofs.PoolKinds.{bit_two, class_stays, still_class, looks-at as table-looks, reserves-at as table-reserves, settles-at as table-settles, claims-at as table-claims, clears-at as table-clears, glances-at as table-glances}
 use Rattle.schedule_rule.specs.Counts.{ClassesSound}
 use Rattle.schedule_rule.specs.Parts.{Part, classes, seen, Says, AllSay, Keeps}
-use Rattle.schedule_rule.proofs.Rule.{frames}
+use Rattle.schedule_rule.proofs.Rule.{frames, same-story}
 
 -- where no class changes where a record stands, records have their classes still
 pub classes-kept : (p : Program) (g : Plan) (calls : List Accepted) (supers supers' : ℕ → ℕ) (clear : ℕ → ℕ → ℕ) (states : ℕ → ℕ) (hands : List Hand) (vs : List (List Made))
@@ -97,7 +97,7 @@ module _ (g : Setup) (id : ℕ) (v : View) where
       let w : View = saw (super i) (m (super i)) (looked i c (m (super i)) v) in
       let says : (q : Part) → Says g q s (put m (super i) (m (super i))) (map (seen q) (slice_set vs id w)) =
       super-says m vs s l at i (m (super i)) w (same-looked i c (m (super i))) (λ j near' some. ap (λ (x : Mem). class_of (x (super j))) (put-again m (super i))) in
-      (t.0, (s, record { table = t.1; schedule = λ q. subst (λ (x : View). Says g q s (put m (super i) (m (super i))) (map (seen q) (slice_set vs id x))) (sym t.2.0) (says q) }), t.2, t.3)
+      (t.0, (s, same-story s, record { table = t.1; schedule = λ q. subst (λ (x : View). Says g q s (put m (super i) (m (super i))) (map (seen q) (slice_set vs id x))) (sym t.2.0) (says q) }), t.2, t.3)
 
   -- a load of any word
   pub glances-at : (a : Addr) → Keeps g id v a (λ n. n) (λ r w. (w ≡ saw a r v) × (v.parts ≤ 4096) × (length v.turn ≤ 1))
@@ -106,6 +106,7 @@ module _ (g : Setup) (id : ℕ) (v : View) where
         t.0,
         (
           s,
+          same-story s,
           record {
             table = t.1;
             schedule = λ q. subst (λ (x : Mem). Says g q s x (map (seen q) (slice_set vs id t.0))) (sym (put-again m a))
@@ -122,7 +123,7 @@ module _ (g : Setup) (id : ℕ) (v : View) where
   reserves-at i c old new near low_class in_use which room new_is m vs s l at small =
       let t = table-reserves g id v i c old new near low_class in_use which room new_is m vs s l.table at small in
       let a : Addr = super i in let n : ℕ = either (m a == old) new (m a) in
-      (t.0, (s, record { table = t.1; schedule = says t.0 t.2.0 }), t.2, t.3)
+      (t.0, (s, same-story s, record { table = t.1; schedule = says t.0 t.2.0 }), t.2, t.3)
     where
       won : m (super i) ≡ old → (q : Part) → Says g q s (put m (super i) new) (map (seen q) (slice_set vs id (saw (super i) (m (super i)) (reserved (place i c) v))))
       won e = super-says m vs s l at i new (saw (super i) (m (super i)) (reserved (place i c) v)) (same-reserved i c (m (super i)))
@@ -144,14 +145,14 @@ module _ (g : Setup) (id : ℕ) (v : View) where
       let says : (q : Part) → Says g q s (put m (super i) n) (map (seen q) (slice_set vs id (saw (super i) (m (super i)) (settled (place i c) v)))) =
       super-says m vs s l at i n (saw (super i) (m (super i)) (settled (place i c) v)) (same-settled i c (m (super i)))
       (still_class g id v m vs s l.table at i c n near in_use has (λ some. omega (arith, some, small))) in
-      (t.0, (s, record { table = t.1; schedule = λ q. subst (λ (x : View). Says g q s (put m (super i) n) (map (seen q) (slice_set vs id x))) (sym t.2) (says q) }), t.2, t.3)
+      (t.0, (s, same-story s, record { table = t.1; schedule = λ q. subst (λ (x : View). Says g q s (put m (super i) n) (map (seen q) (slice_set vs id x))) (sym t.2) (says q) }), t.2, t.3)
 
   -- claim
   pub claims-at : (i c b : ℕ) → i < g.plan.geometry.superblocks → c ≤ 3 → b < cap g.plan c → 1 ≤ v.parts → Has (place i c) v.reserved
       → Keeps g id v (bits i (b / 64)) (λ n. bit_or n (one_bit b)) (λ r w. WonBit b (saw (bits i (b / 64)) r v) (saw (bits i (b / 64)) r (claimed g.plan (place i c) b v)) r w)
   claims-at i c b near low_class below in_use has m vs s l at small =
       let t = table-claims g id v i c b near low_class below in_use has m vs s l.table at small in
-      (t.0, (s, record { table = t.1; schedule = says t.0 t.2 (bit_two (m (bits i (b / 64))) (b % 64)) }), t.2, t.3)
+      (t.0, (s, same-story s, record { table = t.1; schedule = says t.0 t.2 (bit_two (m (bits i (b / 64))) (b % 64)) }), t.2, t.3)
     where
       says : (w : View) → WonBit b (saw (bits i (b / 64)) (m (bits i (b / 64))) v) (saw (bits i (b / 64)) (m (bits i (b / 64))) (claimed g.plan (place i c) b v)) (m (bits i (b / 64))) w
           → (bit_at (m (bits i (b / 64))) (b % 64) ≡ 0) ⊎ (bit_at (m (bits i (b / 64))) (b % 64) ≡ 1)
@@ -171,6 +172,7 @@ module _ (g : Setup) (id : ℕ) (v : View) where
         t.0,
         (
           s,
+          same-story s,
           record {
             table = t.1;
             schedule = λ q. subst (λ (y : View). Says g q s (put m (bits i j) n) (map (seen q) (slice_set vs id y))) (sym t.2)

@@ -9,7 +9,7 @@ use Rattle.record_core.proofs.CountFacts.{total-dropped, times-some}
 use Rattle.record_core.proofs.BelowFacts.{below-member}
 use Rattle.record_core.specs.Sums.{below}
 use Rattle.kt_words.specs.StateWords.{phase_of}
-use Rattle.table_core.specs.Addresses.{Mem, super, sum, state, head, next, task, put, units_of, frame_in}
+use Rattle.table_core.specs.Addresses.{Mem, super, sum, state, head, next, task, put, units_of, frame_in, outcome}
 use Rattle.table_core.specs.Asking.{Drawn}
 use Rattle.table_core.specs.Holdings.{Block, Made}
 use Rattle.table_core.specs.References.{is_saved, is_live, is_record}
@@ -27,10 +27,10 @@ use Rattle.table_core.proofs.WaitFacts.{standing, chain-waits}
 use Rattle.schedule_rule.specs.Rows.{drawn_at}
 use Rattle.schedule_rule.specs.Numbers.{in_hand}
 use Rattle.schedule_rule.specs.Askers.{AskedSound, IsFirstOf}
-use Rattle.schedule_rule.specs.Counts.{lives_in}
-use Rattle.schedule_rule.specs.Parts.{Part, places, askers, framed, owners, live, classes, behind, seen, Says, AllSay, Keeps}
-use Rattle.schedule_rule.proofs.Rule.{frames, moves}
-use Rattle.schedule_rule.proofs.StateFacts.{saved-record, AreAlike, places-alike, owners-alike, framed-alike, live-alike, classes-alike, behind-alike}
+use Rattle.schedule_rule.specs.Counts.{lives_in, CountedSound}
+use Rattle.schedule_rule.specs.Parts.{Part, places, askers, framed, owners, live, classes, behind, seen, Says, AllSay, Keeps, formed, results, begun, counted_lives}
+use Rattle.schedule_rule.proofs.Rule.{frames, moves, same-story}
+use Rattle.schedule_rule.proofs.StateFacts.{saved-record, AreAlike, places-alike, owners-alike, framed-alike, live-alike, classes-alike, behind-alike, formed-alike, results-alike, begun-alike}
 
 -- what does not pass is not dropped
 pub has-left : {A : Type 0} (p : A → Bool) (l : List A) (x : A) → p x ≡ false → Has x l → Has x (dropped p l)
@@ -43,7 +43,7 @@ has-left {A} p (y ∷ l) x not has = by (p y) refl (has-left p l x not) has.0 ha
     by false e rest zero here = (0, here)
     by false e rest (suc k) there = let t = rest (k, there) in (suc t.0, t.1)
 
-has-more : {A : Type 0} (y : A) (l : List A) (x : A) → Has x l → Has x (y ∷ l)
+pub has-more : {A : Type 0} (y : A) (l : List A) (x : A) → Has x l → Has x (y ∷ l)
 has-more y l x has = (suc has.0, has.1)
 
 -- the tests of a state word, by its phase
@@ -102,6 +102,9 @@ module _ (g : Setup) (id : ℕ) (v : View) where
       words-say places = places-alike g.plan states states' alike s.calls (map (seen places) vs) (l.schedule places)
       words-say owners = owners-alike g.plan states states' alike s.calls s.ends (λ w. m (task w)) (map (seen owners) vs) (l.schedule owners)
       words-say framed = framed-alike g.plan states states' alike g.checked s.calls (λ w. m (task w)) (frame_in m) (map (seen framed) vs) (l.schedule framed)
+      words-say formed = formed-alike g.plan states states' alike g.checked (frame_in m) (map (seen formed) vs) (l.schedule formed)
+      words-say results = results-alike g.plan states states' alike s.ends (λ w. m (task w)) (λ w. m (outcome w)) (l.schedule results)
+      words-say begun = begun-alike g.plan states states' alike s.calls s.ends (l.schedule begun)
       words-say live = live-alike g.plan states states' alike (m (sum 1)) (map (seen live) vs) (l.schedule live)
       words-say classes = classes-alike g.plan states states' alike g.checked s.calls (λ i. m (super i)) (map (seen classes) vs) (l.schedule classes)
       words-say behind = behind-alike g.plan states states' alike s.calls s.ends heads nexts (λ w. m (task w)) (map (seen behind) vs) (λ k w low there. saved-record (states w) (listed-waits k w low there))
@@ -128,9 +131,14 @@ module _ (g : Setup) (id : ℕ) (v : View) where
             asker = λ k d there. let t = was.asker k d there in (t.0, elim t.1 [ inl r ↦ inl (r.0, has-more (new_made x) v.made r.0 r.1, r.2) | inr r ↦ inr r ]);
             made = each-cons _ (new_made x) v.made (λ some. absurd (some refl)) was.made;
             unplaced = was.unplaced;
+            one = was.one;
+            asked = was.asked;
           }))
       found-parts live = moves g vs id v at live s (put m (state x.unit) 1) after_found
           (omega (arith, found-word live, total-set lives_in (map (seen live) vs) id (seen live v) (seen live after_found) (at_map (seen live) vs id v at)))
+      found-parts counted_lives = moves g vs id v at counted_lives s (put m (state x.unit) 1) after_found
+          (let was : CountedSound (seen counted_lives v) = l.schedule counted_lives id (seen counted_lives v) (at_map (seen counted_lives) vs id v at) in
+          each-set CountedSound (map (seen counted_lives) vs) id (seen counted_lives after_found) (l.schedule counted_lives) (record { made = each-cons _ (new_made x) v.made (λ e. absurd (true≢false (sym e))) was.made; done = was.done }))
       found-parts classes = moves g vs id v at classes s (put m (state x.unit) 1) after_found
           (record {
             records = (found-word classes).records;
@@ -140,6 +148,9 @@ module _ (g : Setup) (id : ℕ) (v : View) where
       found-parts places = frames g vs id v at places s (put m (state x.unit) 1) after_found refl (found-word places)
       found-parts owners = frames g vs id v at owners s (put m (state x.unit) 1) after_found refl (found-word owners)
       found-parts framed = frames g vs id v at framed s (put m (state x.unit) 1) after_found refl (found-word framed)
+      found-parts formed = frames g vs id v at formed s (put m (state x.unit) 1) after_found refl (found-word formed)
+      found-parts results = frames g vs id v at results s (put m (state x.unit) 1) after_found refl (found-word results)
+      found-parts begun = frames g vs id v at begun s (put m (state x.unit) 1) after_found refl (found-word begun)
       found-parts behind = frames g vs id v at behind s (put m (state x.unit) 1) after_found refl (found-word behind)
       found-parts q = frames g vs id v at q s (put m (state x.unit) 1) after_found refl (l.schedule q)
 
@@ -173,6 +184,8 @@ module _ (g : Setup) (id : ℕ) (v : View) where
             asker = λ k d there. let t = was.asker k d there in (t.0, elim t.1 [ inl y ↦ inl (y.0, still (d) (k, there) y.0 y.1 y.2, y.2) | inr y ↦ inr y ]);
             made = each-dropped _ (is_made_at r.unit) v.made was.made;
             unplaced = was.unplaced;
+            one = was.one;
+            asked = was.asked;
           }))
         where
           was : AskedSound s.calls g.plan (seen askers v)
@@ -189,6 +202,9 @@ module _ (g : Setup) (id : ℕ) (v : View) where
             total-dropped (λ (y : Made). one_if y.live) (is_made_at r.unit) 0 v.made (λ k y there here. ap one_if (ap (λ (z : Made). z.live) (only-one y (k, there) (eqb-true y.unit r.unit here)) ∙ not_counted))
                 (record { member = r; there = has; passes = eq-eqb r.unit r.unit refl }),
           ))
+      unmake-parts counted_lives = moves g vs id v at counted_lives s (put m (state r.unit) 0) after_unmake
+          (let was : CountedSound (seen counted_lives v) = l.schedule counted_lives id (seen counted_lives v) (at_map (seen counted_lives) vs id v at) in
+          each-set CountedSound (map (seen counted_lives) vs) id (seen counted_lives after_unmake) (l.schedule counted_lives) (record { made = each-dropped _ (is_made_at r.unit) v.made was.made; done = was.done }))
       unmake-parts classes = moves g vs id v at classes s (put m (state r.unit) 0) after_unmake
           (record {
             records = (unmake-word classes).records;
@@ -198,13 +214,16 @@ module _ (g : Setup) (id : ℕ) (v : View) where
       unmake-parts places = frames g vs id v at places s (put m (state r.unit) 0) after_unmake refl (unmake-word places)
       unmake-parts owners = frames g vs id v at owners s (put m (state r.unit) 0) after_unmake refl (unmake-word owners)
       unmake-parts framed = frames g vs id v at framed s (put m (state r.unit) 0) after_unmake refl (unmake-word framed)
+      unmake-parts formed = frames g vs id v at formed s (put m (state r.unit) 0) after_unmake refl (unmake-word formed)
+      unmake-parts results = frames g vs id v at results s (put m (state r.unit) 0) after_unmake refl (unmake-word results)
+      unmake-parts begun = frames g vs id v at begun s (put m (state r.unit) 0) after_unmake refl (unmake-word begun)
       unmake-parts behind = frames g vs id v at behind s (put m (state r.unit) 0) after_unmake refl (unmake-word behind)
       unmake-parts q = frames g vs id v at q s (put m (state r.unit) 0) after_unmake refl (l.schedule q)
 
   pub founds-at : (x : Block) → Has x v.blocks → x.fresh ≡ true → 1 ≤ v.parts → Keeps g id v (state x.unit) (λ n. 1) (λ r w. (n : ℕ) × (w ≡ saw (state x.unit) n (founded x v)))
   founds-at x has fresh in_use m vs s l at small = (
     saw (state x.unit) (m (state x.unit)) (founded x v),
-    (s, record { table = found-table g id v m vs s l.table at x has fresh in_use; schedule = found-parts m vs s l at x has fresh in_use }),
+    (s, same-story s, record { table = found-table g id v m vs s l.table at x has fresh in_use; schedule = found-parts m vs s l at x has fresh in_use }),
     (m (state x.unit), refl),
     (refl, refl),
   )
@@ -212,7 +231,7 @@ module _ (g : Setup) (id : ℕ) (v : View) where
   pub unmakes-at : (r : Made) → Has r v.made → r.number ≡ 0 → r.live ≡ false → 1 ≤ v.parts → Keeps g id v (state r.unit) (λ n. 0) (λ k w. (n : ℕ) × (w ≡ saw (state r.unit) n (unmade r.unit r.class v)))
   unmakes-at r has no_number not_counted in_use m vs s l at small = (
     saw (state r.unit) (m (state r.unit)) (unmade r.unit r.class v),
-    (s, record { table = unmake-table g id v m vs s l.table at r has no_number in_use; schedule = unmake-parts m vs s l at r has no_number not_counted in_use }),
+    (s, same-story s, record { table = unmake-table g id v m vs s l.table at r has no_number in_use; schedule = unmake-parts m vs s l at r has no_number not_counted in_use }),
     (m (state r.unit), refl),
     (refl, refl),
   )

@@ -19,13 +19,13 @@ use Rattle.table_core.specs.Views.{saw}
 use Rattle.table_core.specs.declared.setup.Setup.{Setup}
 use Rattle.table_core.specs.declared.view.View.{View}
 use Rattle.table_core.proofs.AddressFacts.{put-again}
-use Rattle.table_core.proofs.ListFacts.{at_map, each-set, same_some}
+use Rattle.table_core.proofs.ListFacts.{at_map, each-dropped, each-set, same_some}
 use Rattle.table_core.proofs.ReferenceKinds.{mores-at as table-mores, lessens-at as table-lessens, gives-up-at as table-gives-up}
 use Rattle.table_core.proofs.FillKinds.{reads-at as table-reads, sees-state-at as table-sees-state}
 use Rattle.schedule_rule.specs.Frames.{Bagged, BagSound}
-use Rattle.schedule_rule.specs.Counts.{lives_in}
-use Rattle.schedule_rule.specs.Parts.{Part, bags, live, classes, seen, Says, AllSay, Keeps}
-use Rattle.schedule_rule.proofs.Rule.{frames, moves}
+use Rattle.schedule_rule.specs.Counts.{lives_in, CountedSound}
+use Rattle.schedule_rule.specs.Parts.{Part, bags, live, classes, seen, Says, AllSay, Keeps, counted_lives}
+use Rattle.schedule_rule.proofs.Rule.{frames, moves, same-story}
 
 -- without what goes, the references are enough for the frames that run, if they were
 abbrev pub StillEnough : Program → View → View → Type 0
@@ -64,6 +64,9 @@ module _ (g : Setup) (id : ℕ) (v : View) where
           total-dropped (λ (x : Done). cond x.out 0 1) (is_done_at u) 0 v.done (λ k x there here. ap (λ (b : Bool). cond b 0 1) (out x (k, there) (eqb-true x.unit u here)))
               (record { member = d; there = has; passes = eq-eqb d.unit u unit_is }),
         ))
+    give_up-says u n d has unit_is out counted_lives = moves g vs id v at counted_lives s (put m (refs u) n) (saw (refs u) (m (refs u)) (gave_up u (m (refs u)) v))
+        (let was : CountedSound (seen counted_lives v) = l.schedule counted_lives id (seen counted_lives v) (at_map (seen counted_lives) vs id v at) in
+        each-set CountedSound (map (seen counted_lives) vs) id (seen counted_lives (saw (refs u) (m (refs u)) (gave_up u (m (refs u)) v))) (l.schedule counted_lives) (record { made = was.made; done = each-dropped _ (is_done_at u) v.done was.done }))
     give_up-says u n d has unit_is out q = frames g vs id v at q s (put m (refs u) n) (saw (refs u) (m (refs u)) (gave_up u (m (refs u)) v)) refl (l.schedule q)
 
     -- a hand has one done record at most at a unit
@@ -87,30 +90,30 @@ module _ (g : Setup) (id : ℕ) (v : View) where
       → Keeps g id v (refs u) (λ n. (n + 1) % 2 ^ 64) (λ r w. w ≡ saw (refs u) r (referred u v))
   mores-at u near in_use has room m vs s l at small =
       let t = table-mores g id v u near in_use has room m vs s l.table at small in
-      (t.0, (s, record { table = t.1; schedule = λ q. subst (λ (x : View). Says g q s (put m (refs u) ((m (refs u) + 1) % 2 ^ 64)) (map (seen q) (slice_set vs id x))) (sym t.2) (more-says m vs s l at u ((m (refs u) + 1) % 2 ^ 64) q) }), t.2, t.3)
+      (t.0, (s, same-story s, record { table = t.1; schedule = λ q. subst (λ (x : View). Says g q s (put m (refs u) ((m (refs u) + 1) % 2 ^ 64)) (map (seen q) (slice_set vs id x))) (sym t.2) (more-says m vs s l at u ((m (refs u) + 1) % 2 ^ 64) q) }), t.2, t.3)
 
   -- less
   pub lessens-at : (u : ℕ) → u < units_of g.plan → 1 ≤ v.parts → 1 ≤ times u v.futures → ((n : ℕ) → StillEnough g.checked v (lessened u n v))
       → Keeps g id v (refs u) (λ n. (n + (2 ^ 64 - 1)) % 2 ^ 64) (λ r w. w ≡ saw (refs u) r (lessened u r v))
   lessens-at u near in_use has still m vs s l at small =
       let t = table-lessens g id v u near in_use has m vs s l.table at small in let n : ℕ = (m (refs u) + (2 ^ 64 - 1)) % 2 ^ 64 in
-      (t.0, (s, record { table = t.1; schedule = λ q. subst (λ (x : View). Says g q s (put m (refs u) n) (map (seen q) (slice_set vs id x))) (sym t.2) (less-says m vs s l at u n (still (m (refs u))) q) }), t.2, t.3)
+      (t.0, (s, same-story s, record { table = t.1; schedule = λ q. subst (λ (x : View). Says g q s (put m (refs u) n) (map (seen q) (slice_set vs id x))) (sym t.2) (less-says m vs s l at u n (still (m (refs u))) q) }), t.2, t.3)
 
   -- give up, once the list is closed and the record counted out
   pub gives-up-at : (u : ℕ) → u < units_of g.plan → 1 ≤ v.parts → (d : Done) → Has d v.done → d.unit ≡ u → d.closed ≡ true → d.out ≡ true
       → Keeps g id v (refs u) (λ n. (n + (2 ^ 64 - 1)) % 2 ^ 64) (λ r w. w ≡ saw (refs u) r (gave_up u r v))
   gives-up-at u near in_use d has unit_is closed out m vs s l at small =
       let t = table-gives-up g id v u near in_use d has unit_is closed m vs s l.table at small in let n : ℕ = (m (refs u) + (2 ^ 64 - 1)) % 2 ^ 64 in
-      (t.0, (s, record { table = t.1; schedule = λ q. subst (λ (x : View). Says g q s (put m (refs u) n) (map (seen q) (slice_set vs id x))) (sym t.2) (give_up-says m vs s l at u n d has unit_is (only-out m vs s l at u d has unit_is out) q) }), t.2, t.3)
+      (t.0, (s, same-story s, record { table = t.1; schedule = λ q. subst (λ (x : View). Says g q s (put m (refs u) n) (map (seen q) (slice_set vs id x))) (sym t.2) (give_up-says m vs s l at u n d has unit_is (only-out m vs s l at u d has unit_is out) q) }), t.2, t.3)
 
   -- read own
   pub reads-at : (a : Addr) → Keeps g id v a (λ n. n) (λ r w. (w ≡ saw a r (learnt a r v)) × ((n : ℕ) → known_in a v.known ≡ Some n → r ≡ n))
   reads-at a m vs s l at small =
       let t = table-reads g id v a m vs s l.table at small in
-      (t.0, (s, record { table = t.1; schedule = λ q. subst (λ (x : View). Says g q s (put m a (m a)) (map (seen q) (slice_set vs id x))) (sym t.2.0) (read-says m vs s l at a q) }), t.2, t.3)
+      (t.0, (s, same-story s, record { table = t.1; schedule = λ q. subst (λ (x : View). Says g q s (put m a (m a)) (map (seen q) (slice_set vs id x))) (sym t.2.0) (read-says m vs s l at a q) }), t.2, t.3)
 
   -- see state
   pub sees-state-at : (u : ℕ) → u < units_of g.plan → Keeps g id v (state u) (λ n. n) (λ r w. (w ≡ saw (state u) r (saw_state u r v)) × IsStateWord r)
   sees-state-at u near m vs s l at small =
       let t = table-sees-state g id v u near m vs s l.table at small in
-      (t.0, (s, record { table = t.1; schedule = λ q. subst (λ (x : View). Says g q s (put m (state u) (m (state u))) (map (seen q) (slice_set vs id x))) (sym t.2.0) (state-says m vs s l at u q) }), t.2, t.3)
+      (t.0, (s, same-story s, record { table = t.1; schedule = λ q. subst (λ (x : View). Says g q s (put m (state u) (m (state u))) (map (seen q) (slice_set vs id x))) (sym t.2.0) (state-says m vs s l at u q) }), t.2, t.3)

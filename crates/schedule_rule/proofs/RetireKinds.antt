@@ -9,7 +9,7 @@ use Rattle.kt_words.specs.HeadWords.{closed_word, link_of, length_of}
 use Rattle.kt_words.specs.StateWords.{phase_of, number_of}
 use Rattle.kt_words.specs.SuperWords.{class_of}
 use Rattle.frame_code.specs.Words.{body_at}
-use Rattle.table_core.specs.Addresses.{Mem, super, state, head, next, task, put, units_of, frame_in}
+use Rattle.table_core.specs.Addresses.{Mem, super, state, head, next, task, put, units_of, frame_in, outcome}
 use Rattle.table_core.specs.Pool.{IsBlock, superblock_of}
 use Rattle.table_core.specs.RecordViews.{retired}
 use Rattle.table_core.specs.References.{is_saved, is_live, is_record}
@@ -20,12 +20,14 @@ use Rattle.table_core.specs.declared.setup.Setup.{Setup}
 use Rattle.table_core.specs.declared.view.View.{View}
 use Rattle.table_core.proofs.RecordKinds.{is_done, unlisted, in_block, same-test, state-here, state-other, retire-parts as retire-table}
 use Rattle.schedule_rule.specs.Calls.{task_of, after_of, IsNumber, IsLast, IsComplete}
-use Rattle.schedule_rule.specs.Numbers.{in_state, saved_at, done_with}
+use Rattle.schedule_rule.specs.Numbers.{in_state, saved_at, done_with, is_begun}
 use Rattle.schedule_rule.specs.Frames.{IsFrameOf}
 use Rattle.schedule_rule.specs.Counts.{class_in}
-use Rattle.schedule_rule.specs.Parts.{Part, places, owners, framed, live, classes, behind, seen, Says, AllSay, Keeps}
-use Rattle.schedule_rule.proofs.Rule.{frames}
+use Rattle.schedule_rule.specs.Parts.{Part, places, owners, framed, live, classes, behind, seen, Says, AllSay, Keeps, formed, results, begun}
+use Rattle.schedule_rule.proofs.Rule.{frames, same-story}
 use Rattle.schedule_rule.proofs.RecordKinds.{test_saved, test_live, listed-waits, chained-waits}
+use Rattle.schedule_rule.specs.Results.{SaysOutcome}
+use Rattle.schedule_rule.proofs.StateFacts.{begun-record}
 
 module _ (g : Setup) (id : ℕ) (v : View) where
   module _ (m : Mem) (vs : List View) (s : Story) (l : AllSay g s m vs) (at : At vs id v) (u : ℕ) (near : u < units_of g.plan) (has : 1 ≤ times u v.retiring) (in_use : 1 ≤ v.parts) where
@@ -110,6 +112,17 @@ module _ (g : Setup) (id : ℕ) (v : View) where
           subst (λ (x : ℕ). IsFrameOf g.checked s.calls (λ y. m (task y)) (number_of x) (body_at g.checked (frame_in m w))) (sym (saved-other w there)) ((l.schedule framed).saved w low there);
       running = (l.schedule framed).running;
     })
+    retire-says c formed = frames g vs id v at formed s (put m (state u) 0) (after_retire c) refl (record {
+      saved = λ w low is. (l.schedule formed).saved w low (sym (saved-now w) ∙ is);
+      running = (l.schedule formed).running;
+    })
+    retire-says c results = frames g vs id v at results s (put m (state u) 0) (after_retire c) refl (λ w low is.
+        let same : now w ≡ states w = state-other m u 0 w (λ e. omega (arith, sym is ∙ ap (λ (x : ℕ). phase_of (now x)) e ∙ ap phase_of (state-here m u 0))) in
+        let t = l.schedule results w low (ap phase_of (sym same) ∙ is) in
+        (t.0, t.1, subst (λ (x : ℕ). SaysOutcome x (m (outcome w)) t.0) (sym same) t.2))
+    retire-says c begun = frames g vs id v at begun s (put m (state u) 0) (after_retire c) refl (λ w low is.
+        let same : now w ≡ states w = other w (begun-record (now w) is) in
+        subst (λ (x : ℕ). IfSome (after_of s.calls (number_of x)) (IsComplete s.ends)) (sym same) (l.schedule begun w low (ap is_begun (sym same) ∙ is)))
     retire-says c live = frames g vs id v at live s (put m (state u) 0) (after_retire c) refl
         (omega (arith, l.schedule live, below-same (λ w. one_if (is_live (now w))) (λ w. one_if (is_live (states w))) (units_of g.plan) (λ w low. ap one_if (live-now w))))
     retire-says c classes = frames g vs id v at classes s (put m (state u) 0) (after_retire c) refl (record {
@@ -130,7 +143,7 @@ module _ (g : Setup) (id : ℕ) (v : View) where
       → Keeps g id v (state u) (λ n. 0) (λ k w. (c : ℕ) × IsBlock g.plan u c × ((n : ℕ) × (w ≡ saw (state u) n (retired u c v))))
   retires-at u near has in_use m vs s l at small = (
     saw (state u) (m (state u)) (retired u (class_of (m (super (superblock_of g.plan u)))) v),
-    (s, record { table = retire-table g id v m vs s l.table at u near has in_use; schedule = retire-says m vs s l at u near has in_use (class_of (m (super (superblock_of g.plan u)))) }),
+    (s, same-story s, record { table = retire-table g id v m vs s l.table at u near has in_use; schedule = retire-says m vs s l at u near has in_use (class_of (m (super (superblock_of g.plan u)))) }),
     (class_of (m (super (superblock_of g.plan u))), in_block g id v m vs s l.table at u near has in_use, (m (state u), refl)),
     (refl, refl),
   )

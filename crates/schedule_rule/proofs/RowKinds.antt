@@ -23,7 +23,7 @@ use Rattle.schedule_rule.specs.Calls.{AtNumber, task_in, after_in, task_of, afte
 use Rattle.schedule_rule.specs.Rows.{Unwritten, RowsSound, RowedSound, row_word, word_of_task, lacking_task, lacking_after}
 use Rattle.schedule_rule.specs.DrawViews.{wrote_task, wrote_after}
 use Rattle.schedule_rule.specs.Parts.{Part, facts, rows, rowed, seen, Says, AllSay, Keeps}
-use Rattle.schedule_rule.proofs.Rule.{frames, moves}
+use Rattle.schedule_rule.proofs.Rule.{frames, moves, same-story}
 use Rattle.schedule_rule.proofs.StoryFacts.{is-number}
 
 -- the row of n is written, that one pass lacked
@@ -140,7 +140,7 @@ module _ (g : Setup) (id : ℕ) (v : View) where
       → Keeps g id v (journal n 0) (λ k. task_in (Some call) n) (λ k w. (found : ℕ) × (w ≡ saw (journal n 0) found (wrote_task n v)))
   writes-task-at n call knows lacks in_use m vs s l at small = (
     saw (journal n 0) (m (journal n 0)) (wrote_task n v),
-    (s, record { table = task-table m vs s l at n call knows in_use lacks; schedule = task-says m vs s l at n call knows in_use lacks }),
+    (s, same-story s, record { table = task-table m vs s l at n call knows in_use lacks; schedule = task-says m vs s l at n call knows in_use lacks }),
     (m (journal n 0), refl),
     (refl, refl),
   )
@@ -150,7 +150,7 @@ module _ (g : Setup) (id : ℕ) (v : View) where
       → Keeps g id v (journal n 1) (λ k. word_of_task (after_in (Some call))) (λ k w. (found : ℕ) × (w ≡ saw (journal n 1) found (wrote_after n v)))
   writes-after-at n call knows lacks in_use m vs s l at small = (
     saw (journal n 1) (m (journal n 1)) (wrote_after n v),
-    (s, record { table = after-table m vs s l at n call knows in_use lacks; schedule = after-says m vs s l at n call knows in_use lacks }),
+    (s, same-story s, record { table = after-table m vs s l at n call knows in_use lacks; schedule = after-says m vs s l at n call knows in_use lacks }),
     (m (journal n 1), refl),
     (refl, refl),
   )

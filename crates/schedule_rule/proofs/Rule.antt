@@ -1,19 +1,21 @@
 -- How the scheduler's rule is kept: a part that reads nothing of what a step changes stays, and a step that keeps all parts may be
 -- made.
-use Rattle.std.proofs.Common.{◌≡◌, ◌∙◌, ℕ, Bool, true, false, cond, List, map, refl, sym, ap, subst, true≢false, arith, length-set}
+use Rattle.std.proofs.Common.{◌≡◌, ◌∙◌, ℕ, Bool, true, false, cond, List, [], ◌∷◌, ◌++◌, map, refl, sym, ap, subst, true≢false, arith, length-set}
 use Rattle.std.specs.Prelude.{slice_index, slice_set}
-use Rattle.std.proofs.lemmas.List.{map-set}
+use Rattle.std.proofs.lemmas.List.{map-set, append-nil}
 use Rattle.atomic_table.specs.Table.{State, Me, Allows}
 use Rattle.atomic_table.specs.Table as table
 use Rattle.table_core.specs.Addresses.{Addr, Mem, address, is_there, is_same, mem_of, put}
 use Rattle.record_core.specs.Counting.{At}
-use Rattle.table_core.specs.Story.{Story}
+use Rattle.task_meaning.specs.Worths.{Accepted}
+use Rattle.table_core.specs.Story.{Story, End}
 use Rattle.table_core.specs.Steps.{Stepped, Tells, TellsStored}
 use Rattle.table_core.specs.declared.setup.Setup.{Setup}
 use Rattle.table_core.specs.declared.view.View.{View}
 use Rattle.table_core.proofs.ListFacts.{found, set_again, at_map}
 use Rattle.table_core.proofs.AddressFacts.{mem-put, mem_at, put-again, same-is}
-use Rattle.schedule_rule.specs.Parts.{Part, seen, Says, Lawful, Holds, Keeps, is_written, UnwrittenAreZero}
+use Rattle.schedule_rule.specs.Parts.{Part, seen, Says, Lawful, LawfulAfter, Holds, Keeps, is_written, UnwrittenAreZero}
+use Rattle.schedule_rule.specs.Stories.{GoesOn, Grows}
 
 module _ (g : Setup) (vs : List View) (id : ℕ) (v : View) (at : At vs id v) where
   -- a part stays where what it reads of the view stays
@@ -53,7 +55,7 @@ may_step g slots id me a f told there written keeps s holds homes at small =
       tt,
       (
         length-set s.words (address g.plan a) (f (slice_index s.words (address g.plan a))) ∙ holds.0,
-        subst (λ (n : Mem). Lawful g n (slice_set s.views id new)) put_there step.1,
+        subst (λ (n : Mem). Lawful g n (slice_set s.views id new)) put_there (step.1.0, step.1.2),
         subst UnwrittenAreZero put_there (unwritten-kept m a (f (m a)) written holds.2),
       ),
       (subst (λ (n : ℕ). told n new) read step.2, subst (λ (n : ℕ). Stepped a n me.0 new) read step.3, refl),
@@ -74,5 +76,21 @@ stores g key slots id word new me a told keyed placed there written keeps s hold
     (step.0, step.1, step.2, step.3, (step.4.0, (slice_index s.words word, step.4.1), step.4.2))
 
 -- a word is written as it was
-pub kept_word : (g : Setup) (m : Mem) (a : Addr) (n : ℕ) (vs : List View) → n ≡ m a → Lawful g m vs → Lawful g (put m a n) vs
-kept_word g m a n vs same lawful = subst (λ (x : Mem). Lawful g x vs) (sym (ap (put m a) same ∙ put-again m a)) lawful
+pub kept_word : (g : Setup) (s : Story) (m : Mem) (a : Addr) (n : ℕ) (vs : List View) → n ≡ m a → LawfulAfter g s m vs → LawfulAfter g s (put m a n) vs
+kept_word g s m a n vs same lawful = subst (λ (x : Mem). LawfulAfter g s x vs) (sym (ap (put m a) same ∙ put-again m a)) lawful
+
+-- a list goes on from itself
+pub goes_nowhere : {A : Type 0} (l : List A) → GoesOn l l
+goes_nowhere l = ([], sym (append-nil l))
+
+-- nothing happened
+pub same-story : (s : Story) → Grows s s
+same-story s = record { calls = goes_nowhere s.calls; order = goes_nowhere s.order; ends = goes_nowhere s.ends }
+
+-- a call was accepted
+pub one-call : (s : Story) (a : Accepted) → Grows s (record s { calls = s.calls ++ a ∷ [] })
+one-call s a = record { calls = (a ∷ [], refl); order = goes_nowhere s.order; ends = goes_nowhere s.ends }
+
+-- a task ended
+pub one-end : (s : Story) (e : End) → Grows s (record s { ends = s.ends ++ e ∷ [] })
+one-end s e = record { calls = goes_nowhere s.calls; order = goes_nowhere s.order; ends = (e ∷ [], refl) }

@@ -21,10 +21,11 @@ use Rattle.schedule_rule.specs.Rows.{Unwritten, RowedSound, row_word, word_of_ta
 use Rattle.schedule_rule.specs.Numbers.{in_hand, in_hands}
 use Rattle.schedule_rule.specs.Calls.{AtNumber, IsSo, task_of, after_of}
 use Rattle.schedule_rule.specs.Askers.{AskedSound}
-use Rattle.schedule_rule.specs.Frames.{IsFrameOf, BagSound}
-use Rattle.schedule_rule.specs.Counts.{lives_in}
+use Rattle.schedule_rule.specs.Frames.{IsFrameOf, BagSound, IsFormed}
+use Rattle.schedule_rule.specs.Counts.{lives_in, CountedSound}
 use Rattle.schedule_rule.specs.Numbers.{IsRun}
-use Rattle.schedule_rule.specs.Parts.{Part, draws, names, callers, facts, rows, rowed, places, askers, framed, root_tasks, owners, running, live, classes, behind, bags, quiet, Seen, seen, Says, AllSay, Holds}
+use Rattle.schedule_rule.specs.Limits.{ToldSound}
+use Rattle.schedule_rule.specs.Parts.{Part, draws, names, callers, facts, rows, rowed, places, askers, framed, root_tasks, owners, running, live, classes, behind, bags, quiet, Seen, seen, Says, AllSay, Holds, formed, suited, results, begun, counted_lives, limits}
 use Rattle.schedule_rule.proofs.Rule.{holds_at}
 
 module _ (g : Setup) (m : Mem) (vs : List View) (s : Story) (l : (q : Part) → Says g q s m (map (seen q) vs)) (id : ℕ) (v : View) (at : At vs id v) where
@@ -63,12 +64,19 @@ module _ (g : Setup) (m : Mem) (vs : List View) (s : Story) (l : (q : Part) → 
   split_parts rowed = each-both rowed RowedSound (l rowed) (l rowed id (seen rowed v) (at_map (seen rowed) vs id v at)) (record { task = λ n. omega arith; after = λ n. omega arith; runs = each-none _ })
   split_parts places = λ n. omega (arith, l places n, sum-same places (in_hand n) refl refl)
   split_parts askers = each-both askers (AskedSound s.calls g.plan) (l askers) (l askers id (seen askers v) (at_map (seen askers) vs id v at))
-      (record { asker = each-none _; made = each-none _; unplaced = each-none _ })
+      (record { asker = each-none _; made = each-none _; unplaced = each-none _; one = each-none _; asked = each-none _ })
   split_parts framed = record {
     saved = (l framed).saved;
     running = each-both framed (Each (λ (r : Run). IsFrameOf g.checked s.calls (λ u. m (task u)) r.number (body_at g.checked (slice_index r.words)))) (l framed).running
         ((l framed).running id (seen framed v) (at_map (seen framed) vs id v at)) (each-none _);
   }
+  split_parts formed = record {
+    saved = (l formed).saved;
+    running = each-both formed (Each (λ (r : Run). IsFormed g.checked (slice_index r.words))) (l formed).running ((l formed).running id (seen formed v) (at_map (seen formed) vs id v at)) (each-none _);
+  }
+  split_parts suited = l suited
+  split_parts results = l results
+  split_parts begun = l begun
   split_parts root_tasks = record {
     own = (l root_tasks).own;
     are = (l root_tasks).are;
@@ -88,6 +96,7 @@ module _ (g : Setup) (m : Mem) (vs : List View) (s : Story) (l : (q : Part) → 
   }
   split_parts running = each-both running (Each (IsRun g.plan s.calls)) (l running) (l running id (seen running v) (at_map (seen running) vs id v at)) (each-none _)
   split_parts live = omega (arith, l live, sum-same live lives_in refl refl)
+  split_parts counted_lives = each-both counted_lives CountedSound (l counted_lives) (l counted_lives id (seen counted_lives v) (at_map (seen counted_lives) vs id v at)) (record { made = each-none _; done = each-none _ })
   split_parts classes = record {
     records = (l classes).records;
     made = each-both classes _ (l classes).made ((l classes).made id (seen classes v) (at_map (seen classes) vs id v at)) (each-none _);
@@ -97,16 +106,22 @@ module _ (g : Setup) (m : Mem) (vs : List View) (s : Story) (l : (q : Part) → 
     chained_behind = each-both behind _ (l behind).chained_behind ((l behind).chained_behind id (seen behind v) (at_map (seen behind) vs id v at)) (each-none _);
   }
   split_parts bags = each-both bags (BagSound g.checked) (l bags) (l bags id (seen bags v) (at_map (seen bags) vs id v at)) (record { pairs = []; are_runs = refl; covers = each-none _; enough = λ u. omega arith })
+  split_parts limits = record {
+    told = each-both limits (ToldSound g.plan.limit s.calls) (l limits).told ((l limits).told id (seen limits v) (at_map (seen limits) vs id v at)) (record { answers = each-none _; roots = each-none _ });
+    ended = (l limits).ended;
+  }
   split_parts quiet = each-both quiet _ (l quiet) (l quiet id (seen quiet v) (at_map (seen quiet) vs id v at)) (l quiet id (seen quiet v) (at_map (seen quiet) vs id v at))
 
   pub split-says : (q : Part) → Says g q s m (map (seen q) (slice_set vs id (kept_half v) ++ idle_half v ∷ []))
   split-says q = subst (Says g q s m) (sym (map-append (seen q) (slice_set vs id (kept_half v)) (idle_half v ∷ []) ∙ ap (λ (xs : List (Seen q)). xs ++ seen q (idle_half v) ∷ []) (map-set (seen q) vs id (kept_half v)))) (split_parts q)
 
 -- a pass with two parts or more may be split
-pub split-holds : (g : Setup) (ws : List ℕ) (vs : List View) (id : ℕ) (v : View) → Holds g ws vs → At vs id v → 2 ≤ v.parts → Holds g ws (slice_set vs id (kept_half v) ++ idle_half v ∷ [])
-split-holds g ws vs id v holds at room =
-    let m : Mem = mem_of g.plan ws in let s : Story = holds.1.0 in let l : AllSay g s m vs = holds.1.1 in
-    (holds.0, (s, record { table = table-split g m vs s l.table id v at room; schedule = split-says g m vs s l.schedule id v at }), holds.2)
+pub split-all : (g : Setup) (s : Story) (m : Mem) (vs : List View) (id : ℕ) (v : View) → AllSay g s m vs → At vs id v → 2 ≤ v.parts → AllSay g s m (slice_set vs id (kept_half v) ++ idle_half v ∷ [])
+split-all g s m vs id v l at room = record { table = table-split g m vs s l.table id v at room; schedule = split-says g m vs s l.schedule id v at }
+
+-- the same of the words as they lie
+split-holds : (g : Setup) (ws : List ℕ) (vs : List View) (id : ℕ) (v : View) → Holds g ws vs → At vs id v → 2 ≤ v.parts → Holds g ws (slice_set vs id (kept_half v) ++ idle_half v ∷ [])
+split-holds g ws vs id v holds at room = (holds.0, (holds.1.0, split-all g holds.1.0 (mem_of g.plan ws) vs id v holds.1.1 at room), holds.2)
 
 pub splits : (g : Setup) (id : ℕ) (v : View) → 2 ≤ v.parts → Splits (holds_at g) id v (kept_half v) (idle_half v)
 splits g id v room st holds at = split-holds g st.words st.views id v holds (found st.views id v at) room

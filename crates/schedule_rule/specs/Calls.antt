@@ -3,9 +3,32 @@ use Rattle.std.specs.Prelude.{◌≡◌, ◌≢◌, ℕ, ◌<◌, ◌≤◌, ◌
 use Rattle.record_core.specs.Sums.{total, below}
 use Rattle.record_core.specs.Counting.{Has, one_if}
 use Rattle.record_core.specs.Numbers.{by_number}
+use Rattle.task_syntax.specs.Valid.{Agrees}
+use Rattle.task_syntax.specs.declared.program.Sort.{Sort}
+use Rattle.task_syntax.specs.declared.program.Sort.TheVariants as sort
+use Rattle.task_syntax.specs.declared.program.Kind.{Kind}
+use Rattle.task_syntax.specs.declared.program.Program.{Program}
+use Rattle.task_meaning.specs.Frame.{CallOf}
 use Rattle.task_meaning.specs.Worths.{Accepted, OfCall, OfAll, Respawn}
 use Rattle.table_core.specs.Lists.{Each}
 use Rattle.table_core.specs.Story.{Outcome, End, Fact, IsAccepted, IsOver, IsTask}
+
+-- the sort of an argument, by the future that it has
+abbrev pub sort_passed : Option ℕ → Sort
+sort_passed None = sort.Number
+sort_passed (Some t) = sort.Future
+
+-- The program has the kind, and the arguments agree with those of the kind in number and sort.
+pub record IsCallOf (p : Program) (call : CallOf ℕ) : Type 0 where
+  pub kind : call.kind < length p.kinds
+  pub numbers : (k : Kind) → slice_get p.kinds call.kind ≡ Some k → length call.numbers ≡ k.arguments
+  pub futures : (k : Kind) → slice_get p.kinds call.kind ≡ Some k → Agrees sort_passed k call.futures
+
+-- what is accepted is something that the program may ask for
+abbrev pub Suits : Program → Accepted → Type 0
+Suits p (OfCall call waits) = IsCallOf p call
+Suits p (OfAll members) = Unit {0}
+Suits p (Respawn task waits) = Unit {0}
 
 -- this is the member with the number n
 abbrev pub AtNumber : {A : Type 0} → List A → ℕ → A → Type 0
@@ -48,7 +71,7 @@ module _ (calls : List Accepted) where
   abbrev pub IsTaskOf : ℕ → Type 0
   IsTaskOf t = IsNumber t × (task_of t ≡ t)
 
-  -- t is a task that was accepted before the number n
+  -- the second, t, is a task; it was accepted before the first, the number n
   abbrev pub IsBefore : ℕ → ℕ → Type 0
   IsBefore n t = (t < n) × IsTaskOf t
 
@@ -68,7 +91,7 @@ module _ (calls : List Accepted) where
     pub in_turn : (t n : ℕ) (members : List ℕ) (waits : Option ℕ) → AtNumber calls t (OfAll members) → AtNumber calls n (Respawn t waits)
         → (begun t n < length members) × (waits ≡ slice_get members (begun t n))
 
-  -- no later number is of the same task
+  -- of the task of this number no later number is
   abbrev pub IsLast : ℕ → Type 0
   IsLast n = (m : ℕ) → IsNumber m → n < m → task_of m ≢ task_of n
 

@@ -31,6 +31,11 @@ lives_in h = total (λ r. one_if r.live) h.made + total (λ (d : Done). cond d.o
 abbrev pub LiveSound : Plan → (ℕ → ℕ) → ℕ → List Lives → Type 0
 LiveSound g states live vs = live ≡ below (λ u. one_if (is_live (states u))) (units_of g) + total lives_in vs
 
+-- What is counted in has its number, so it can be placed; what is counted out has a closed list, so it can be given up.
+pub record CountedSound (h : Lives) : Type 0 where
+  pub made : Each (λ (r : Made). r.live ≡ true → r.number ≢ 0) h.made
+  pub done : Each (λ (d : Done). d.out ≡ true → d.closed ≡ true) h.done
+
 -- the class of the block that a call needs
 abbrev pub class_in : Program → Option Accepted → ℕ
 class_in p None = 0

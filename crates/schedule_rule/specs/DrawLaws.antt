@@ -3,6 +3,8 @@ use Rattle.std.specs.Prelude.{◌≡◌, ℕ, ◌+◌, ◌%◌, ◌^◌, ◌<◌
 use Rattle.record_core.specs.Counting.{Has}
 use Rattle.frame_code.specs.Control.{is_aggregate}
 use Rattle.frame_code.specs.Words.{body_at}
+use Rattle.task_syntax.specs.Form.{IsWellFormed}
+use Rattle.task_syntax.specs.Valid.{IsValid}
 use Rattle.task_syntax.specs.declared.program.Root.{Root as RootLine}
 use Rattle.task_meaning.specs.Worths.{Accepted, Respawn}
 use Rattle.table_core.specs.Addresses.{journal, sum}
@@ -34,12 +36,12 @@ module _ (g : Setup) (id : ℕ) (v : View) where
   -- a number for a new task, whose record y is made in a block of its class: by a run of a task that is no aggregate and has no
   -- number to place, or by the next root
   abbrev pub DrawForRunKeeps : Type 0
-  DrawForRunKeeps = (a : Accepted) → KnowsCall v a → (y : Made) → Has y v.made → y.number ≡ 0 → y.class ≡ class_in g.checked (Some a) → (r : Run) → Has r v.runs
+  DrawForRunKeeps = (a : Accepted) → KnowsCall g.checked v a → (y : Made) → Has y v.made → y.number ≡ 0 → y.class ≡ class_in g.checked (Some a) → (r : Run) → Has r v.runs
       → is_aggregate (slice_index r.words 0) ≡ false → r.unplaced ≡ 0 → v.may_draw ≡ 1 → 1 ≤ v.parts
       → Keeps g id v (sum 0) (λ n. (n + 1) % 2 ^ 64) (Drew g.plan.limit (λ n. drew_for_run y.unit r.unit r.task a n v) (drew_none (OfTask r.task) v))
 
   abbrev pub DrawForRootKeeps : Type 0
-  DrawForRootKeeps = (asked : List RootSays) → v.turn ≡ asked ∷ [] → length asked < g.plan.roots → v.root_task ≡ 0 → (line : RootLine) → slice_get g.checked.roots (length asked) ≡ Some line
+  DrawForRootKeeps = IsWellFormed g.checked → IsValid g.checked → (asked : List RootSays) → v.turn ≡ asked ∷ [] → length asked < g.plan.roots → v.root_task ≡ 0 → (line : RootLine) → slice_get g.checked.roots (length asked) ≡ Some line
       → (a : Accepted) → IsRootCall v asked line a → (y : Made) → Has y v.made → y.number ≡ 0 → y.class ≡ class_in g.checked (Some a) → v.may_draw ≡ 1 → 1 ≤ v.parts
       → Keeps g id v (sum 0) (λ n. (n + 1) % 2 ^ 64) (Drew g.plan.limit (λ n. drew_for_root y.unit (length asked) a n v) (drew_none (OfRoot (length asked)) v))
 

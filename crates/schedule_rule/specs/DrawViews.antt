@@ -2,6 +2,7 @@
 use Rattle.std.specs.Prelude.{◌≡◌, ℕ, ◌+◌, ◌<◌, ◌≤◌, ◌==◌, ◌&&◌, true, cond, List, [], ◌∷◌, length, Bool, Option, Some, None, IfSome}
 use Rattle.record_core.specs.Counting.{At, Has, dropped}
 use Rattle.task_syntax.specs.Places.{Each as EachArgument}
+use Rattle.task_syntax.specs.declared.program.Program.{Program}
 use Rattle.task_syntax.specs.declared.program.Root.{Root as RootLine}
 use Rattle.task_meaning.specs.Meant.{future_at}
 use Rattle.task_meaning.specs.Roots.{root_call}
@@ -18,6 +19,7 @@ use Rattle.table_core.specs.Views.{saw}
 use Rattle.table_core.specs.WaitViews.{is_run_at}
 use Rattle.table_core.specs.declared.setup.Setup.{Setup}
 use Rattle.table_core.specs.declared.view.View.{View}
+use Rattle.schedule_rule.specs.Calls.{Suits}
 
 -- the list with f of its first member that passes
 abbrev pub changed : {A : Type 0} → (A → Bool) → (A → A) → List A → List A
@@ -110,10 +112,14 @@ abbrev pub KnowsTask : View → ℕ → Type 0
 KnowsTask v t = (u : ℕ) × Has (SawTask u t) v.sights
 
 -- All tasks that the call of a new task names are known. A further activation begins no task.
-abbrev pub KnowsCall : View → Accepted → Type 0
-KnowsCall v (OfCall call waits) = Each (λ o. IfSome o (KnowsTask v)) call.futures × IfSome waits (KnowsTask v)
-KnowsCall v (OfAll members) = (1 ≤ length members) × (length members ≤ 8) × Each (KnowsTask v) members
-KnowsCall v (Respawn task waits) = ⊥
+abbrev pub KnowsNamed : View → Accepted → Type 0
+KnowsNamed v (OfCall call waits) = Each (λ o. IfSome o (KnowsTask v)) call.futures × IfSome waits (KnowsTask v)
+KnowsNamed v (OfAll members) = (1 ≤ length members) × (length members ≤ 8) × Each (KnowsTask v) members
+KnowsNamed v (Respawn task waits) = ⊥
+
+-- the program may make the call of a new task, and all tasks that it names are known
+abbrev pub KnowsCall : Program → View → Accepted → Type 0
+KnowsCall p v call = Suits p call × KnowsNamed v call
 
 -- What the next activation of a run with this frame is behind: a known task or none; of an aggregate it is the next member, whose
 -- task was seen at the record that the frame names.

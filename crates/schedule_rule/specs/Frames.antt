@@ -10,7 +10,8 @@ use Rattle.task_syntax.specs.declared.program.State.{State}
 use Rattle.task_syntax.specs.declared.program.Program.{Program}
 use Rattle.task_meaning.specs.Frame.{CallOf, state_at}
 use Rattle.task_meaning.specs.Worths.{Accepted, OfCall, OfAll}
-use Rattle.frame_code.specs.Words.{BodyOf, OfKind, OfMembers, body_at}
+use Rattle.frame_code.specs.Frames.{frame_length, IsFrame}
+use Rattle.frame_code.specs.Words.{BodyOf, OfKind, OfMembers, words_from, body_at}
 use Rattle.frame_code.specs.Ways.{HasWay}
 use Rattle.frame_code.specs.Units.{units_of as units_named}
 use Rattle.table_core.specs.Addresses.{units_of}
@@ -30,6 +31,19 @@ module _ (p : Program) (calls : List Accepted) (tasks : ℕ → ℕ) where
   pub record FramedSound (g : Plan) (states : ℕ → ℕ) (words : ℕ → ℕ → ℕ) (vs : List (List Run)) : Type 0 where
     pub saved : (u : ℕ) → u < units_of g → is_saved (states u) ≡ true → IsFrameOf (number_of (states u)) (body_at p (words u))
     pub running : Each (Each (λ (r : Run). IsFrameOf r.number (body_at p (slice_index r.words)))) vs
+
+-- the first words, as many as the frame with their control word has
+abbrev pub front : Program → (ℕ → ℕ) → List ℕ
+front p words = words_from words 0 (frame_length p (words 0))
+
+-- These are a frame of the program. So a task may go on from the words, and what they name can be read.
+abbrev pub IsFormed : Program → (ℕ → ℕ) → Type 0
+IsFormed p words = IsFrame p (front p words)
+
+-- The words of records that wait or are ready begin with a frame, and so do those of running records.
+pub record FormedSound (p : Program) (g : Plan) (states : ℕ → ℕ) (words : ℕ → ℕ → ℕ) (vs : List (List Run)) : Type 0 where
+  pub saved : (u : ℕ) → u < units_of g → is_saved (states u) ≡ true → IsFormed p (words u)
+  pub running : Each (Each (λ (r : Run). IsFormed p (slice_index r.words))) vs
 
 -- all futures that are held where the frame stands, on each way to there, are among these variables
 abbrev pub HeldAmong : {A : Type 0} → Program → BodyOf A → List ℕ → Type 0

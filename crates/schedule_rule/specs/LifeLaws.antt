@@ -3,7 +3,6 @@ use Rattle.std.specs.Prelude.{◌≡◌, ◌≢◌, ℕ, ◌+◌, ◌-◌, ◌%�
 use prog.Atomic.{either}
 use Rattle.record_core.specs.Counting.{At, Has, times}
 use Rattle.kt_words.specs.HeadWords.{closed_word, head_word, link_of, length_of, IsHeadWord}
-use Rattle.kt_words.specs.StateWords.{phase_of, number_of, IsStateWord}
 use Rattle.table_core.specs.Addresses.{Mem, state, head, next, sum, units_of}
 use Rattle.table_core.specs.Holdings.{Made, Waiter, Run, Done, SawHead}
 use Rattle.table_core.specs.Lists.{Each}
@@ -14,9 +13,9 @@ use Rattle.table_core.specs.WaitLists.{link_to}
 use Rattle.table_core.specs.WaitViews.{linked, closed_list}
 use Rattle.table_core.specs.declared.setup.Setup.{Setup}
 use Rattle.table_core.specs.declared.view.View.{View}
-use Rattle.schedule_rule.specs.Frames.{BagSound}
-use Rattle.schedule_rule.specs.LifeViews.{KnowsBehind, SawHeadOf, TriedJoin, Unchained, counted_in, counted_out, FinishedTask, moved_on, IsMovedFrame}
-use Rattle.schedule_rule.specs.Parts.{bags, seen, AllSay, Keeps}
+use Rattle.schedule_rule.specs.LifeViews.{KnowsBehind, SawHeadOf, TriedJoin, Unchained, counted_in, counted_out, IsFinishWord, FinishedTask, moved_on, IsMovedFrame}
+use Rattle.schedule_rule.specs.Parts.{AllSay, Keeps}
+use Rattle.schedule_rule.specs.PlacingLaws.{StillCovers}
 
 -- the head of a list that is taken whole was open, and says where it begins and how long it is
 pub record IsWhole (g : Setup) (found : ℕ) (members : List ℕ) : Type 0 where
@@ -67,14 +66,14 @@ module _ (g : Setup) (id : ℕ) (v : View) where
   abbrev pub SpillKeeps : Type 0
   SpillKeeps = Keeps g id v (sum 4) (λ n. 1) (λ k w. (n : ℕ) × (w ≡ saw (sum 4) n v))
 
-  -- a running record by whose acts nothing is unplaced is done, and its task has ended
+  -- a running record by whose acts nothing is unplaced is done, and its task has ended as the word says
   abbrev pub FinishKeeps : Type 0
-  FinishKeeps = (r : Run) → Has r v.runs → r.unplaced ≡ 0 → 1 ≤ v.parts → (word : ℕ) → phase_of word ≡ 5 → number_of word ≡ r.number → IsStateWord word → (outcome : Outcome)
+  FinishKeeps = (r : Run) → Has r v.runs → r.unplaced ≡ 0 → 1 ≤ v.parts → (word : ℕ) (outcome : Outcome) → IsFinishWord v r word outcome
       → Keeps g id v (state r.unit) (λ n. word) (λ k w. FinishedTask r.unit r.task outcome v w)
 
-  -- the frame of a running record moves on where the references are enough still, if they were; no step is made
+  -- the frame of a running record moves on where the references are enough still, provided they were enough before; no step is made
   abbrev pub MoveStays : Type 0
-  MoveStays = (r : Run) → Has r v.runs → r.unplaced ≡ 0 → (words : List ℕ) → IsMovedFrame g.checked r.words words → (BagSound g.checked (seen bags v) → BagSound g.checked (seen bags (moved_on r.unit words v))) → 1 ≤ v.parts
+  MoveStays = (r : Run) → Has r v.runs → r.unplaced ≡ 0 → (words : List ℕ) → IsMovedFrame g.checked r.words words → StillCovers g v (moved_on r.unit words v) → 1 ≤ v.parts
       → (m : Mem) (vs : List View) (s : Story) → AllSay g s m vs → At vs id v → AllSay g s m (slice_set vs id (moved_on r.unit words v))
 
 -- the steps on lists, on the living, and of finishing keep the scheduler's rule, and so do the moves of frames

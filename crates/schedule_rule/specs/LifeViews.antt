@@ -2,21 +2,26 @@
 use Rattle.std.specs.Prelude.{◌≡◌, ◌≢◌, ℕ, slice_index, ◌==◌, Bool, true, false, cond, List, [], ◌∷◌, ◌++◌, Some, IfSome}
 use Rattle.record_core.specs.Counting.{Has}
 use Rattle.kt_words.specs.HeadWords.{closed_word}
+use Rattle.kt_words.specs.StateWords.{phase_of, number_of, tag_of, tag_code, IsStateWord}
+use Rattle.task_syntax.specs.declared.value.Value.TheVariants.{Number, Trapped}
 use Rattle.task_meaning.specs.Worths.{Accepted}
 use Rattle.task_syntax.specs.declared.program.Program.{Program}
 use Rattle.frame_code.specs.Control.{is_aggregate, control_kind}
 use Rattle.frame_code.specs.Ways.{HasWay}
 use Rattle.frame_code.specs.Words.{frame_at}
-use Rattle.table_core.specs.Addresses.{state, head, next}
-use Rattle.table_core.specs.Asking.{Asker, OfRoot, OfTask, Answer}
+use Rattle.table_core.specs.Addresses.{state, head, next, outcome as result_word}
+use Rattle.table_core.specs.Asking.{Asker, OfRoot, OfTask, Answer, Cut, Null, Limit, By, IsNull, IsLimit}
 use Rattle.table_core.specs.Holdings.{Made, Run, Done, SawTask}
+use Rattle.table_core.specs.Own.{known_in}
 use Rattle.table_core.specs.RecordViews.{is_made_at, is_done_at}
-use Rattle.table_core.specs.Story.{Outcome, Fact, IsAccepted, IsOver}
+use Rattle.table_core.specs.Story.{Outcome, Gave, WasCut, Fact, IsAccepted, IsOver}
 use Rattle.table_core.specs.Views.{saw}
 use Rattle.table_core.specs.WaitViews.{is_run_at, saw_head, tried, joined_list, unchained, finished}
 use Rattle.table_core.specs.declared.view.View.{View}
 use Rattle.schedule_rule.specs.Calls.{after_in}
 use Rattle.schedule_rule.specs.DrawViews.{changed}
+use Rattle.schedule_rule.specs.Frames.{IsFormed}
+use Rattle.schedule_rule.specs.Results.{tag_for}
 
 -- what else a pass knows now of the story
 abbrev pub knowing : List Fact → View → View
@@ -84,6 +89,23 @@ answers_left t (a ∷ more) = cond (is_to t a.asker) (answers_left t more) (a �
 abbrev pub ended : ℕ → Outcome → View → View
 ended t outcome v = record v { answers = answers_left t v.answers; facts = IsOver t outcome ∷ v.facts }
 
+-- The pass knows why it ends so. Of a number it has filled the result word. A task ends by the limit only where that was answered to it;
+-- behind a predecessor that was cut it ends as that did. Which task was refused a block is not kept, so an end as null needs no answer.
+abbrev pub KnowsEnd : View → Run → Outcome → Type 0
+KnowsEnd v r (Gave (Number n)) = known_in (result_word r.unit) v.known ≡ Some n
+KnowsEnd v r (Gave (Trapped trap)) = Unit {0}
+KnowsEnd v r (WasCut Null refusal) = refusal ≡ IsNull
+KnowsEnd v r (WasCut Limit refusal) = (refusal ≡ IsLimit) × Has (record { asker = OfTask r.task; refusal = IsLimit }) v.answers
+KnowsEnd v r (WasCut (By t) refusal) = (call : Accepted) × (cut : Cut) × Has (IsAccepted r.number call) v.facts × (after_in (Some call) ≡ Some t) × Has (IsOver t (WasCut cut refusal)) v.facts
+
+-- the word says that the run is done, with this outcome, and keeps its number
+pub record IsFinishWord (v : View) (r : Run) (word : ℕ) (outcome : Outcome) : Type 0 where
+  pub done : phase_of word ≡ 5
+  pub number : number_of word ≡ r.number
+  pub shape : IsStateWord word
+  pub tag : tag_of word ≡ tag_code (tag_for outcome)
+  pub knows : KnowsEnd v r outcome
+
 -- what a finish tells: the record at u is done, its task t has ended so, and the class is that of each run there
 abbrev pub FinishedTask : ℕ → ℕ → Outcome → View → View → Type 0
 FinishedTask u t outcome old new = (n : ℕ) × (c : ℕ) × (new ≡ saw (state u) n (ended t outcome (finished u c old))) × ((x : Run) → Has x old.runs → x.unit ≡ u → x.class ≡ c)
@@ -95,10 +117,11 @@ with_words words r = record r { words = words }
 abbrev pub moved_on : ℕ → List ℕ → View → View
 moved_on u words v = record v { runs = changed (is_run_at u) (with_words words) v.runs }
 
--- The frame with the words `next` is of the same kind as that with the words `words`, neither is an aggregate's, and there is a way
+-- The words `next` begin with a frame of the same kind as that with the words `words`, neither is an aggregate's, and there is a way
 -- to where the next one stands.
 pub record IsMovedFrame (p : Program) (words next : List ℕ) : Type 0 where
   pub single : is_aggregate (slice_index words 0) ≡ false
   pub next_single : is_aggregate (slice_index next 0) ≡ false
   pub kind : control_kind (slice_index next 0) ≡ control_kind (slice_index words 0)
   pub way : HasWay p (frame_at p (slice_index next))
+  pub formed : IsFormed p (slice_index next)

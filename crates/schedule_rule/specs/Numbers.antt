@@ -1,5 +1,5 @@
 -- Where each accepted number stands, and each task.
-use Rattle.std.specs.Prelude.{◌≡◌, ℕ, ◌+◌, ◌<◌, ◌≤◌, ◌==◌, List, true, false, cond, IfSome, Some}
+use Rattle.std.specs.Prelude.{◌≡◌, ℕ, ◌+◌, ◌<◌, ◌≤◌, ◌==◌, ◌&&◌, nat_le, Bool, List, true, false, cond, IfSome, Some}
 use Rattle.record_core.specs.Sums.{total, below}
 use Rattle.record_core.specs.Counting.{Has, one_if, passing, times}
 use Rattle.kt_words.specs.declared.plan.Plan.{Plan}
@@ -16,7 +16,7 @@ use Rattle.schedule_rule.specs.Calls.{task_of, after_of, is_number, IsNumber, Is
 use Rattle.schedule_rule.specs.Rows.{drawn_at}
 
 -- numbers of a pass: drawn and in no state word, and taken
-pub record Taken : Type 0 where
+pub record NumbersHeld : Type 0 where
   pub drawn : List Drawn
   pub taken : List ℕ
 
@@ -24,15 +24,15 @@ pub record Taken : Type 0 where
 abbrev pub in_state : (ℕ → ℕ) → ℕ → ℕ → ℕ
 in_state states n u = cond (is_saved (states u)) (one_if (number_of (states u) == n)) 0
 
-abbrev pub in_hand : ℕ → Taken → ℕ
+abbrev pub in_hand : ℕ → NumbersHeld → ℕ
 in_hand n h = drawn_at n h.drawn + times n h.taken
 
 -- each accepted number stands in one state word, is drawn in one hand, or was taken once
-abbrev pub PlacesSound : Plan → List Accepted → (ℕ → ℕ) → List Taken → Type 0
+abbrev pub PlacesSound : Plan → List Accepted → (ℕ → ℕ) → List NumbersHeld → Type 0
 PlacesSound g calls states vs = (n : ℕ) → below (in_state states n) (units_of g) + total (in_hand n) vs ≡ one_if (is_number calls n)
 
 -- numbers of a pass that are drawn, and its running records
-pub record Places : Type 0 where
+pub record TasksHeld : Type 0 where
   pub drawn : List Drawn
   pub runs : List Run
 
@@ -44,10 +44,10 @@ abbrev pub done_with : (ℕ → ℕ) → (ℕ → ℕ) → ℕ → ℕ → ℕ
 done_with states tasks t u = cond (phase_of (states u) == 5) (one_if (tasks u == t)) 0
 
 -- how often a pass has the first number of the task t, drawn and not placed, or runs the task
-abbrev pub in_hands : List Accepted → ℕ → Places → ℕ
+abbrev pub in_hands : List Accepted → ℕ → TasksHeld → ℕ
 in_hands calls t h = drawn_at t h.drawn + passing (λ r. task_of calls r.number == t) h.runs
 
-pub record OwnersSound (g : Plan) (calls : List Accepted) (ends : List End) (states tasks : ℕ → ℕ) (vs : List Places) : Type 0 where
+pub record OwnersSound (g : Plan) (calls : List Accepted) (ends : List End) (states tasks : ℕ → ℕ) (vs : List TasksHeld) : Type 0 where
   -- a record has an accepted number, and the task word is that of its number
   pub is_of : (u : ℕ) → u < units_of g → is_record (states u) ≡ true → IsNumber calls (number_of (states u)) × (tasks u ≡ task_of calls (number_of (states u)))
   -- a task stands in one saved record, is in one hand, or has ended
@@ -74,3 +74,11 @@ RunningSound g calls = Each (Each (IsRun g calls))
 pub record BehindSound (g : Plan) (calls : List Accepted) (ends : List End) (states heads nexts tasks : ℕ → ℕ) (vs : List (List (List ℕ))) : Type 0 where
   pub listed_behind : (u w : ℕ) → u < units_of g → Has w (listed states heads nexts u) → after_of calls (number_of (states w)) ≡ Some (tasks u)
   pub chained_behind : Each (Each (Each (λ w. IfSome (after_of calls (number_of (states w))) (IsComplete ends)))) vs
+
+-- a record that is ready or runs
+abbrev pub is_begun : ℕ → Bool
+is_begun word = nat_le 3 (phase_of word) && nat_le (phase_of word) 4
+
+-- The predecessor of what is ready or runs is none, or complete.
+abbrev pub BegunSound : Plan → List Accepted → List End → (ℕ → ℕ) → Type 0
+BegunSound g calls ends states = (u : ℕ) → u < units_of g → is_begun (states u) ≡ true → IfSome (after_of calls (number_of (states u))) (IsComplete ends)

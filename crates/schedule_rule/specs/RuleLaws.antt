@@ -6,30 +6,31 @@ use prog.Atomic.{either}
 use Rattle.record_core.specs.Counting.{At, Has, times}
 use Rattle.kt_words.specs.StateWords.{IsStateWord}
 use Rattle.kt_words.specs.SuperWords.{count_of, class_of, reserved_word}
-use Rattle.table_core.specs.Addresses.{Addr, super, bits, state, refs, head, task, outcome, arena, words_of, units_of}
+use Rattle.table_core.specs.Addresses.{Addr, Mem, super, bits, state, refs, head, task, outcome, arena, words_of, units_of}
 use Rattle.table_core.specs.Holdings.{Block, Made, Done}
 use Rattle.table_core.specs.Own.{is_own, known_in}
 use Rattle.table_core.specs.Pool.{cap, superblock_of, bit_of, IsBlock}
 use Rattle.table_core.specs.RecordViews.{founded, unmade, retired, filled, learnt, referred, lessened, gave_up, saw_state}
 use Rattle.table_core.specs.Steps.{Tried, WonBit}
+use Rattle.table_core.specs.Story.{Story}
 use Rattle.table_core.specs.Views.{first_view, kept_half, idle_half, joined, spent, HasOnlyBlocks, place, saw, looked, reserved, claimed, cleared, settled}
 use Rattle.table_core.specs.declared.setup.Setup.{Setup}
 use Rattle.table_core.specs.declared.view.View.{View}
-use Rattle.schedule_rule.specs.Frames.{BagSound}
-use Rattle.schedule_rule.specs.Parts.{bags, seen, Holds, Keeps}
+use Rattle.schedule_rule.specs.Parts.{AllSay, Holds, Keeps}
+use Rattle.schedule_rule.specs.PlacingLaws.{StillCovers}
 
 -- a table whose words are all 0, with its first pass
 abbrev pub NewTablesHold : Type 0
 NewTablesHold = (g : Setup) → Holds g (replicate (words_of g.plan) 0) (first_view ∷ [])
 
--- a pass with two parts or more is split
+-- a pass with two parts or more is split, and the story is as it was
 abbrev pub SplitsHold : Type 0
-SplitsHold = (g : Setup) (ws : List ℕ) (vs : List View) (id : ℕ) (v : View) → Holds g ws vs → At vs id v → 2 ≤ v.parts → Holds g ws (slice_set vs id (kept_half v) ++ idle_half v ∷ [])
+SplitsHold = (g : Setup) (s : Story) (m : Mem) (vs : List View) (id : ℕ) (v : View) → AllSay g s m vs → At vs id v → 2 ≤ v.parts → AllSay g s m (slice_set vs id (kept_half v) ++ idle_half v ∷ [])
 
--- a pass that has nothing but blocks is taken in by another
+-- a pass that has nothing but blocks is taken in by another, and the story is as it was
 abbrev pub JoinsHold : Type 0
-JoinsHold = (g : Setup) (ws : List ℕ) (vs : List View) (id other : ℕ) (v w : View) → Holds g ws vs → At vs id v → At vs other w → id ≢ other → 1 ≤ v.parts → HasOnlyBlocks w
-    → Holds g ws (slice_set (slice_set vs id (joined v w)) other spent)
+JoinsHold = (g : Setup) (s : Story) (m : Mem) (vs : List View) (id other : ℕ) (v w : View) → AllSay g s m vs → At vs id v → At vs other w → id ≢ other → 1 ≤ v.parts → HasOnlyBlocks w
+    → AllSay g s m (slice_set (slice_set vs id (joined v w)) other spent)
 
 -- the words that can be filled: those of a record's frame and header but its state and its next word
 abbrev pub is_filled : Addr → Bool
@@ -97,10 +98,10 @@ module _ (g : Setup) (id : ℕ) (v : View) where
   MoreKeeps = (u : ℕ) → u < units_of g.plan → 1 ≤ v.parts → 1 ≤ times u v.futures → length v.futures < 4294967296
       → Keeps g id v (refs u) (λ n. (n + 1) % 2 ^ 64) (λ r w. w ≡ saw (refs u) r (referred u v))
 
-  -- a reference goes where those that are left are enough for the frames that run, if they were
+  -- a reference goes where those that are left are enough for the frames that run, provided they were enough before
   abbrev pub LessKeeps : Type 0
   LessKeeps = (u : ℕ) → u < units_of g.plan → 1 ≤ v.parts → 1 ≤ times u v.futures
-      → ((n : ℕ) → BagSound g.checked (seen bags v) → BagSound g.checked (seen bags (lessened u n v)))
+      → ((n : ℕ) → StillCovers g v (lessened u n v))
       → Keeps g id v (refs u) (λ n. (n + (2 ^ 64 - 1)) % 2 ^ 64) (λ r w. w ≡ saw (refs u) r (lessened u r v))
 
   -- a done record is given up once its list is closed and it is counted out

@@ -2,6 +2,18 @@ ghost use Rattle.schedule_rule.specs.RuleLaws.{NewTablesHold, SplitsHold, JoinsH
 ghost use Rattle.schedule_rule.specs.RuleLaws.{PoolStepsKeep, RecordStepsKeep, ReferenceStepsKeep};
 ghost use Rattle.schedule_rule.specs.DrawLaws.{TotalLoadsKeep, DrawsKeep, RowWritesKeep};
 ghost use Rattle.schedule_rule.specs.LifeLaws.{ListStepsKeep, LivingStepsKeep, RunStepsKeep};
+ghost use Rattle.schedule_rule.specs.PlacingLaws.{MadePlacingsKeep, NextPlacingsKeep};
+ghost use Rattle.schedule_rule.specs.CoveringLaws.{MoreCover, FewerRunsCover, ActsCover, ActsMove};
+ghost use Rattle.schedule_rule.specs.CoveringMoves.{LinesCover, ReadsCover, CopiesCover, DropsCover};
+ghost use Rattle.schedule_rule.specs.SeeingLaws.{TaskLoadsKeep, KnownLoadsKeep, WaiterStepsKeep};
+ghost use Rattle.schedule_rule.specs.NamingLaws.{RootStepsKeep};
+ghost use Rattle.schedule_rule.specs.SoundViews.{SoundViews};
+ghost use Rattle.schedule_rule.specs.TakingLaws.{TakesKeep};
+ghost use Rattle.schedule_rule.specs.FrontLaws.{FrontsSayTheirBody, FramesAreTheirFront};
+ghost use Rattle.schedule_rule.specs.StartLaws.{NumbersAreTakenOnce, TasksRunOnce};
+ghost use Rattle.schedule_rule.specs.StartLaws.{RunsAreBehindNone, ReadyAreBehindNone};
+ghost use Rattle.schedule_rule.specs.StartLaws.{TakenRunsOrIsOver};
+ghost use Rattle.schedule_rule.specs.OverLaws.{QuietIsOver, HeldAreRecords, LimitIsMet};
 
 /// The scheduler's rule holds of a new table, and passes may be split and joined under it.
 pub fn rule_opens()
@@ -31,4 +43,79 @@ pub fn life_keeps_rule()
     ensures lists { ListStepsKeep }
     ensures living { LivingStepsKeep }
     ensures runs { RunStepsKeep }
+{}
+
+/// The steps that place a number in the state word of its record keep the scheduler's rule.
+pub fn placing_keeps_rule()
+    ensures made { MadePlacingsKeep }
+    ensures again { NextPlacingsKeep }
+{}
+
+/// Where a pass has enough references for its running frames, more are enough, and so are the same
+/// without one of the runs. Past an act by which a run asked for a task, one more is enough, and
+/// the frame has moved on.
+pub fn references_cover()
+    ensures more { MoreCover }
+    ensures without { FewerRunsCover }
+    ensures acts { ActsCover }
+    ensures moves { ActsMove }
+{}
+
+/// A running frame that goes on over lines, or past a read, needs the same references; past a copy
+/// one more is enough, and past a drop one less.
+pub fn references_cover_moves()
+    ensures lines { LinesCover }
+    ensures reads { ReadsCover }
+    ensures copies { CopiesCover }
+    ensures drops { DropsCover }
+{}
+
+/// The loads that tell of tasks, those that tell what is known already, and the store that makes a
+/// waiter ready keep the scheduler's rule.
+pub fn seeing_keeps_rule()
+    ensures tasks { TaskLoadsKeep }
+    ensures known { KnownLoadsKeep }
+    ensures waiters { WaiterStepsKeep }
+{}
+
+/// The naming of roots, and the references that are taken to their records, keep the scheduler's
+/// rule.
+pub fn naming_keeps_rule()
+    ensures roots { RootStepsKeep }
+{}
+
+/// The rule says of each view that what it has and knows is sound, so each step may tell it.
+pub fn rule_tells()
+    ensures { SoundViews }
+{}
+
+/// A take keeps the scheduler's rule: a record that is ready becomes a run of the hand.
+pub fn taking_keeps_rule()
+    ensures { TakesKeep }
+{}
+
+/// The words of a block begin with a frame that says what they say, so it may be read out of them.
+pub fn words_begin_with_frame()
+    ensures bodies { FrontsSayTheirBody }
+    ensures whole { FramesAreTheirFront }
+{}
+
+/// Whatever the passes do, an activation is taken once at most, no task runs twice, and what is
+/// ready or runs is behind no task that is not over. The last activation of a task that was taken
+/// runs, or the task is over.
+pub fn activations_are_taken_once()
+    ensures taken { NumbersAreTakenOnce }
+    ensures runs { TasksRunOnce }
+    ensures behind { RunsAreBehindNone }
+    ensures ready { ReadyAreBehindNone }
+    ensures kept { TakenRunsOrIsOver }
+{}
+
+/// A pass that saw nothing living once all roots were asked for is right that all is over. What a
+/// running frame holds is a record, whatever the passes do. Where a task ended by the limit, or a
+/// root's word says that it was refused by it, the limit is met.
+pub fn nothing_is_lost()
+    ensures quiet { QuietIsOver }
+    ensures held { HeldAreRecords }
+    ensures limit { LimitIsMet }
 {}

@@ -7,4 +7,8 @@
 
 mod laws;
 
-pub use laws::{draws_keep_rule, life_keeps_rule, rule_opens, steps_keep_rule};
+pub use laws::{
+    activations_are_taken_once, draws_keep_rule, life_keeps_rule, naming_keeps_rule,
+    nothing_is_lost, placing_keeps_rule, references_cover, references_cover_moves, rule_opens,
+    rule_tells, seeing_keeps_rule, steps_keep_rule, taking_keeps_rule, words_begin_with_frame,
+};

@@ -10,8 +10,8 @@ returns-clause-totals c g id v = ((λ asker may. sees-drawn-at g id v asker), se
 
 pub returns-clause-draws : goal.returns-clause-draws
 returns-clause-draws c g id v = (
-  (λ r has asked unplaced waits. draws-again-at g id v r has asked waits),
-  (λ a knows y made no_number class r has task unplaced. draws-for_run-at g id v a knows y made no_number class r has),
+  draws-again-at g id v,
+  (λ a knows y made no_number class r has task unplaced. draws-for_run-at g id v a knows y made no_number class r has unplaced),
   draws-for_root-at g id v,
 )
 

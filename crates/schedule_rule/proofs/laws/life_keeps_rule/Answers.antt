@@ -26,7 +26,7 @@ returns-clause-lists c g id v = (
 )
 
 pub returns-clause-living : goal.returns-clause-living
-returns-clause-living c g id v = (counts-in-at g id v, (λ d has out closed. counts-out-at g id v d has out), spills-at g id v)
+returns-clause-living c g id v = (counts-in-at g id v, counts-out-at g id v, spills-at g id v)
 
 pub returns-clause-runs : goal.returns-clause-runs
 returns-clause-runs c g id v = (
