@@ -1,5 +1,6 @@
 -- The hand of the first pass, record by record.
-use Rattle.std.proofs.Common.{◌≡◌, ◌≢◌, ◌∙◌, ◌⊎◌, inl, inr, ℕ, zero, suc, ◌+◌, ◌<◌, ◌≤◌, Bool, true, false, cond, ◌==◌, Some, None, List, [], ◌∷◌, ◌++◌, map, length, refl, sym, ap, subst, arith}
+use Rattle.std.proofs.Common.{◌≡◌, ◌≢◌, ◌∙◌, ◌⊎◌, inl, inr, ℕ, zero, suc, ◌+◌, ◌<◌, ◌≤◌, Bool, true, false, cond, ◌==◌, Some, None, List, [], ◌∷◌, ◌++◌, map, length, replicate, take, refl, sym, ap, subst, arith}
+use Rattle.std.specs.List.{list_all}
 use Rattle.std.specs.Prelude.{nat_lt, slice_index_or}
 use Rattle.std.proofs.lemmas.Bool.{cases_eq, cases_lt, eq-eqb, lt-ltb, ltb-true, ne_eqb}
 use Rattle.std.proofs.lemmas.Nat.{div-add-mod'}
@@ -12,7 +13,7 @@ use Rattle.kt_words.specs.declared.phase.Phase.TheVariants.{Free, Made, Waiting,
 use Rattle.kt_words.specs.StateWords.{phase_code}
 use Rattle.table_core.specs.Addresses.{units_of}
 use Rattle.table_core.specs.Holdings.{Waiter}
-use Rattle.table_core.specs.Opened.{units_in, opened_waiter, opened_run, opened_view}
+use Rattle.table_core.specs.Opened.{can_open, units_in, opened_waiter, opened_run, opened_view}
 use Rattle.table_core.specs.Pool.{IsBlock}
 use Rattle.table_core.specs.WaitLists.{waits_at}
 use Rattle.table_core.specs.declared.view.View.{View}
@@ -23,6 +24,17 @@ use Rattle.wait_rows.specs.declared.stage.Stage.{Stage}
 use Rattle.wait_rows.specs.declared.stage.Stage.TheVariants as stage
 use Rattle.wait_rows.specs.Hands.{units, OpenedAs, StandsAs, HasHand, HasFirst}
 use Rattle.wait_rows.proofs.HandFacts.{times-last}
+
+-- records that wait may be opened
+waiting-open : (k : ℕ) → list_all can_open (replicate k Waiting) ≡ true
+waiting-open zero = refl
+waiting-open (suc k) = waiting-open k
+
+-- so may some of those that run, with records that wait behind them
+pub both-open : (n a k : ℕ) → list_all can_open (take n (replicate a Running) ++ replicate k Waiting) ≡ true
+both-open zero a k = waiting-open k
+both-open (suc n) zero k = waiting-open k
+both-open (suc n) (suc a) k = both-open n a k
 
 -- a record whose phase passes is among those that do
 in-units_from : (passes : ℕ → Bool) (k : ℕ) (phases : List Phase) (j : ℕ) (p : Phase) → At phases j p → passes (phase_code p) ≡ true → Has (k + j) (units_in passes k phases)

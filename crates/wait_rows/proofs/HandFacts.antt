@@ -24,7 +24,7 @@ use Rattle.step_table.specs.declared.record_tokens.Finishing.{Finishing}
 use Rattle.step_table.specs.declared.record_tokens.Chain.{Chain}
 use Rattle.step_table.specs.Passes.{view}
 use Rattle.step_table.specs.RecordHands.{HasFuture}
-use Rattle.step_table.specs.ListHands.{IsWaiter, IsRunning, IsUnclosed, HasChain}
+use Rattle.step_table.specs.ListHands.{IsWaiter, IsRunning, IsUnclosed, StandsChain, HasChain, IsChain}
 use Rattle.step_table.specs.ListSteps.{TakesList, Unchains, Finishes}
 use Rattle.wait_lists.specs.Joining.{Waits, SawClosed, IsRelinked}
 use Rattle.wait_rows.specs.declared.stage.Stage.{Stage}
@@ -49,6 +49,14 @@ each-front P (y ∷ rest) x all = each-cons P y rest (all 0 y refl) (each-front 
 -- a reference stays where the references stay
 still-refers : (g : Plan) (u : ℕ) (v w : View) → w.futures ≡ v.futures → HasFuture g u v → HasFuture g u w
 still-refers g u v w same has = record { near = has.near; there = subst (λ (l : List ℕ). 1 ≤ times u l) (sym same) has.there }
+
+-- a chain stays where the chains stay
+pub still-chain : (g : Plan) (c : Chain) (v w : View) → w.chains ≡ v.chains → IsChain g c v → IsChain g c w
+still-chain g c v w same is = (is.0, record { there = stands is.0 is.1.there; first_is = is.1.first_is; length_is = is.1.length_is; near = is.1.near })
+  where
+    stands : (members : List ℕ) → StandsChain members v → StandsChain members w
+    stands [] there = tt
+    stands (u ∷ us) there = subst (Has (u ∷ us)) (sym same) there
 
 -- a record stands as before where no record starts or ends
 still-stands : (g : Plan) (u : ℕ) (s : Stage) (v w : View) → w.runs ≡ v.runs → w.done ≡ v.done → StandsAs g u s v → StandsAs g u s w

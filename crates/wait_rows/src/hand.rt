@@ -34,6 +34,7 @@ pub fn join_one(
     ensures table { IsOf shared.now pass.new }
     ensures hand { IsHand (plan shared.now) hand.new (view pass.new) }
     ensures count { vec_len hand.new.stages ≡ vec_len hand.old.stages }
+    ensures chains { (view pass.new).chains ≡ (view pass.old).chains }
 {
     let Some(waiter) = hand.waiting.pop() else {
         return Ok(None);

@@ -1,5 +1,5 @@
 //! Tables with records, and the hand of their pass.
-ghost use Rattle.std.specs.Prelude.{◌≡◌, ◌≤◌, ◌<◌, ◌+◌, IfOk, IfSome, IsTrue, length, vec_len};
+ghost use Rattle.std.specs.Prelude.{◌≡◌, ◌≤◌, ◌<◌, ◌+◌, IfOk, IsTrue, length, vec_len};
 ghost use Rattle.std.specs.List.{list_all};
 ghost use Rattle.table_core.specs.Addresses.{units_of};
 ghost use Rattle.table_core.specs.Opened.{can_open, opened_view};
@@ -12,43 +12,43 @@ use crate::stage::Stage;
 use kt_words::{Geometry, Phase, Plan};
 use std::alloc::{AllocError, Global};
 use step_table::{Pass, Shared};
-use task_check::check;
-use task_reader::read_program;
-use task_syntax::{Checked, Columns};
+use task_syntax::{Checked, Columns, List, Program};
 
-const PROGRAM: &str = "ktask 1\nkind one\nstate start\ndone 1\nend\nroot p one\n";
-
-// The program of a text.
-fn program_of(alloc: Global, text: &str) -> Option<Checked> {
-    if text.len() > 10_000 {
-        return None;
-    }
-    let program = read_program(alloc, text.as_bytes()).ok()?;
-    check(alloc, program).ok()
-}
-
-// The plan of a program's run over one superblock of 512 units.
-fn plan_of(checked: &Checked) -> Option<Plan>
-    ensures roots { IfSome result (λ plan. plan.roots ≡ length checked.now.roots) }
-    ensures units { IfSome result (λ plan. plan.geometry.units ≡ 512) }
-    ensures superblocks { IfSome result (λ plan. plan.geometry.superblocks ≡ 1) }
+// The plan of a run without roots, over one superblock of 512 units.
+fn plan_of() -> Plan
+    ensures roots { result.roots ≡ 0 }
+    ensures units { result.geometry.units ≡ 512 }
+    ensures superblocks { result.geometry.superblocks ≡ 1 }
 {
-    let geometry = Geometry::new(1, 512)?;
-    let roots = u8::try_from(checked.program().roots.len()).ok()?;
-    Plan::new(geometry, 1, roots)
+    let geometry = Geometry::new(1, 512).unwrap();
+    Plan::new(geometry, 1, 0).unwrap()
 }
 
-/// A table with records of class 0 in these phases, at most 512.
-pub fn open_table(alloc: Global, phases: &[Phase]) -> Option<(Shared, Pass)>
+/// So many records that run, and behind them so many that wait.
+pub fn phases_of(alloc: Global, running: u32, waiting: u32) -> Result<Vec<Phase>, AllocError>
+    requires few { running + waiting ≤ 512 }
+    ensures phases { IfOk result (λ v. IsTrue (list_all can_open v.items)) }
+    ensures count { IfOk result (λ v. vec_len v ≡ running + waiting) }
+{
+    let mut phases = Vec::from_elem(alloc, Phase::Running, running as usize)?;
+    phases.resize((running + waiting) as usize, Phase::Waiting)?;
+    Ok(phases)
+}
+
+/// A table for a program without kinds and roots, with records of class 0 in these phases, at
+/// most 512.
+pub fn open_table(alloc: Global, phases: &[Phase]) -> Result<(Shared, Pass), AllocError>
     requires phases { IsTrue (list_all can_open phases.now) }
     requires few { length phases.now ≤ 512 }
-    ensures pass { IfSome result (λ made. IsFirst made.0 made.1 (opened_view phases.now)) }
-    ensures units { IfSome result (λ made. units_of (plan made.0) ≡ 512) }
+    ensures pass { IfOk result (λ made. IsFirst made.0 made.1 (opened_view phases.now)) }
+    ensures units { IfOk result (λ made. units_of (plan made.0) ≡ 512) }
 {
-    let checked = program_of(alloc, PROGRAM)?;
-    let plan = plan_of(&checked)?;
+    let program = Program {
+        kinds: List::new(alloc),
+        roots: List::new(alloc),
+    };
     let columns = Columns::none(alloc);
-    Shared::opened(alloc, checked, columns, plan, phases).ok()
+    Shared::opened(alloc, Checked::seal(program), columns, plan_of(), phases)
 }
 
 // One record more: it is kept as its phase says.

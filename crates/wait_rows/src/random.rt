@@ -1,15 +1,12 @@
 //! Joins, finishes and closes in any order.
-ghost use Rattle.std.specs.Prelude.{◌≡◌, ◌<◌, IfOk, IsTrue, length, vec_len};
-ghost use Rattle.std.specs.List.{list_all};
-ghost use Rattle.table_core.specs.Opened.{can_open};
+ghost use Rattle.std.specs.Prelude.{◌≡◌, ◌<◌, vec_len};
 ghost use Rattle.step_table.specs.Passes.{view, plan, IsOf};
 ghost use Rattle.step_table.specs.ListHands.{IsChain};
 ghost use Rattle.wait_rows.specs.Hands.{IsHand};
 
 use crate::hand::{Hand, close_one, finish_one, join_one, take_one};
-use crate::opening::{open_hand, open_table};
+use crate::opening::{open_hand, open_table, phases_of};
 use crate::orders::Orders;
-use kt_words::Phase;
 use rand_core::Rng;
 use rand_pcg::Pcg32;
 use std::alloc::{AllocError, Global};
@@ -26,16 +23,6 @@ const WAITING: u32 = 400;
 struct Kept {
     opened: [bool; 32],
     lists: Orders,
-}
-
-// Records that run, and behind them records that wait.
-fn phases(alloc: Global) -> Result<Vec<Phase>, AllocError>
-    ensures phases { IfOk result (λ v. IsTrue (list_all can_open v.items)) }
-    ensures count { IfOk result (λ v. vec_len v ≡ 432) }
-{
-    let mut phases = Vec::from_elem(alloc, Phase::Running, RUNNING as usize)?;
-    phases.resize((RUNNING + WAITING) as usize, Phase::Waiting)?;
-    Ok(phases)
 }
 
 // Goes through a chain: it is the list as it was kept by hand, the last first.
@@ -166,15 +153,20 @@ fn end(
     Ok(())
 }
 
-// Each record that waits is in the hand once.
-fn check_all(rt: &impl Abort, alloc: Global, hand: &Hand) -> Result<(), Fail> {
+// The units of the records that wait in the hand, the lowest first.
+fn units_of(alloc: Global, hand: &Hand) -> Result<Vec<u32>, AllocError> {
     let mut units = Vec::new(alloc);
     for waiter in &hand.waiting {
         units.push(waiter.unit())?;
     }
     units.sort()?;
+    Ok(units)
+}
+
+// Each record that waits is in the hand once.
+fn check_all(rt: &impl Abort, alloc: Global, hand: &Hand) -> Result<(), Fail> {
     let mut expected = RUNNING;
-    for unit in units {
+    for unit in units_of(alloc, hand)? {
         assert_eq!(rt; unit, expected);
         expected = expected.saturating_add(1);
     }
@@ -184,8 +176,8 @@ fn check_all(rt: &impl Abort, alloc: Global, hand: &Hand) -> Result<(), Fail> {
 
 // One table, and so many turns.
 fn round(rt: &impl Abort, alloc: Global, random: &mut Pcg32, turns: u32) -> Result<(), Fail> {
-    let phases = phases(alloc)?;
-    let (shared, pass) = open_table(alloc, &phases).ok_or("no table")?;
+    let phases = phases_of(alloc, RUNNING, WAITING)?;
+    let (shared, pass) = open_table(alloc, &phases)?;
     let mut pass = pass;
     let mut hand = open_hand(alloc, &shared, &pass, &phases)?;
     let mut kept = Kept {
