@@ -10,7 +10,7 @@ use Rattle.kt_words.specs.declared.super_word.SuperWord.{SuperWord}
 use Rattle.record_core.specs.Numbers.{by_number, HasTask}
 use Rattle.record_core.specs.Journal.{is_cut, cause_of}
 use Rattle.record_core.specs.EndSeen.{EndSeen}
-use Rattle.record_core.specs.EndCalls.{TellRun, IsMade, IsOf, IsOwn, IsRowOf, IsWanted}
+use Rattle.record_core.specs.EndCalls.{Makers, TellRun, IsMadeBy, IsOf, IsOwn, IsRowOf, IsWanted}
 use Rattle.record_core.specs.EndFaithful.{EndFaithful}
 use Rattle.record_core.specs.EndLaws.{AsksForClass, IsOfOneRoot}
 use Rattle.record_core.specs.declared.rows.ActivationRow.{ActivationRow}
@@ -44,22 +44,22 @@ pub no_exchange : (p : Program) (e : EndSeen) (i j t u : ℕ) → EndFaithful p 
 no_exchange p e i j t u faithful earlier first second smaller = omega (arith, smaller, faithful.own.rise i j t u earlier first second)
 
 -- 0 numbers nothing
-no_zero : {X : Type 0} (xs : List X) (n : ℕ) (x : X) → by_number xs n ≡ Some x → 1 ≤ n
+pub no_zero : {X : Type 0} (xs : List X) (n : ℕ) (x : X) → by_number xs n ≡ Some x → 1 ≤ n
 no_zero xs zero x there = absurd (none_there x there)
 no_zero xs (suc n) x there = omega arith
 
 -- two members at one place are the same
-one_member : {X : Type 0} (o : Option X) (x y : X) → o ≡ Some x → o ≡ Some y → x ≡ y
+pub one_member : {X : Type 0} (o : Option X) (x y : X) → o ≡ Some x → o ≡ Some y → x ≡ y
 one_member o x y first second = let both : Some x ≡ Some y = sym first ∙ second in cc
 
 -- one number is below the other, or not
-lt_or_le : (m n : ℕ) → (m < n) ⊎ (n ≤ m)
+pub lt_or_le : (m n : ℕ) → (m < n) ⊎ (n ≤ m)
 lt_or_le m zero = inr (omega arith)
 lt_or_le zero (suc n) = inl (omega arith)
 lt_or_le (suc m) (suc n) = elim (lt_or_le m n) [ inl less ↦ inl (omega (arith, less)) | inr more ↦ inr (omega (arith, more)) ]
 
 -- lists of one length have members at the same numbers
-beside : {X Y : Type 0} (xs : List X) (ys : List Y) → length xs ≡ length ys → (n : ℕ) (x : X) → by_number xs n ≡ Some x → (y : Y) × (by_number ys n ≡ Some y)
+pub beside : {X Y : Type 0} (xs : List X) (ys : List Y) → length xs ≡ length ys → (n : ℕ) (x : X) → by_number xs n ≡ Some x → (y : Y) × (by_number ys n ≡ Some y)
 beside xs ys many zero x there = absurd (none_there x there)
 beside xs ys many (suc n) x there = member_at ys n (omega (arith, many, at-in_range xs n x there))
 
@@ -69,15 +69,17 @@ row_first n (OfCall call waits) row is = omega (arith, is.0)
 row_first n (OfAll members) row is = omega (arith, is.0)
 row_first n (Respawn t waits) row is = omega (arith, is.0, is.2)
 
-module _ (p : Program) (e : EndSeen) (calls : List Accepted) (makers : ℕ → ℕ) (told : TellRun p e calls makers) where
+module _ (p : Program) (e : EndSeen) (calls : List Accepted) (makers : Makers) (told : TellRun p e calls makers) where
   -- whoever made a task is of a task with a smaller number
-  maker_task : (t : ℕ) (is : IsMade p e calls t (makers t)) → (is.maker.row.task < t) × HasTask e.rows is.maker.row.task
+  pub maker_task : (t : ℕ) (is : IsMadeBy p e calls makers t) → (is.maker.row.task < t) × HasTask e.rows is.maker.row.task
   maker_task t is =
       let maker = is.maker in
-      let its_call = beside e.rows calls (sym told.as_many) (makers t) maker.row maker.there in
-      let before : maker.row.task ≤ makers t = row_first (makers t) its_call.0 maker.row (told.rows (makers t) its_call.0 maker.row its_call.1 maker.there) in
-      let first = beside calls e.rows told.as_many maker.row.task (OfCall maker.has.call maker.has.waits) maker.has.is_call in
-      let is_row = told.rows maker.row.task (OfCall maker.has.call maker.has.waits) first.0 maker.has.is_call first.1 in
+      let n = makers.number t in
+      let its_call = beside e.rows calls (sym told.as_many) n maker.row maker.there in
+      let before : maker.row.task ≤ n = row_first n its_call.0 maker.row (told.rows n its_call.0 maker.row its_call.1 maker.there) in
+      let stands = maker.stands in
+      let first = beside calls e.rows told.as_many maker.row.task (OfCall stands.call stands.waits) stands.is_call in
+      let is_row = told.rows maker.row.task (OfCall stands.call stands.waits) first.0 stands.is_call first.1 in
       (omega (arith, before, maker.drawn), (first.0, first.1, is_row.0))
 
   -- going from task to maker one comes to a root
@@ -106,12 +108,12 @@ module _ (p : Program) (e : EndSeen) (calls : List Accepted) (makers : ℕ → �
   only_root rise at other t (IsOf.own first) (IsOf.made is of) = absurd (is.not_own (at, first))
   only_root rise at other t (IsOf.made is of) (IsOf.own second) = absurd (is.not_own (other, second))
   only_root rise at other t (IsOf.made is of) (IsOf.made again of_again) =
-      let same : is.maker.row ≡ again.maker.row = one_member (by_number e.rows (makers t)) is.maker.row again.maker.row is.maker.there again.maker.there in
+      let same : is.maker.row ≡ again.maker.row = one_member (by_number e.rows (makers.number t)) is.maker.row again.maker.row is.maker.there again.maker.there in
       only_root rise at other is.maker.row.task of (subst (λ (row : ActivationRow). IsOf p e calls makers other row.task) (sym same) of_again)
 
 -- each task is of one root
 pub each_of_a_root : (p : Program) (e : EndSeen) → EndFaithful p e
-    → (calls : List Accepted) × (makers : ℕ → ℕ) × TellRun p e calls makers × ((t : ℕ) → HasTask e.rows t → IsOfOneRoot p e calls makers t)
+    → (calls : List Accepted) × (makers : Makers) × TellRun p e calls makers × ((t : ℕ) → HasTask e.rows t → IsOfOneRoot p e calls makers t)
 each_of_a_root p e faithful =
     let (calls, makers, told) = faithful.told in (
       calls,
@@ -125,7 +127,7 @@ each_of_a_root p e faithful =
 pub first_is_own : (p : Program) (e : EndSeen) → EndFaithful p e → HasTask e.rows 1 → IsOwn e.own 1
 first_is_own p e faithful task = elim (faithful.told.2.of_root 1 task) [
   | inl is ↦ is
-  | inr is ↦ absurd (omega (arith, no_zero e.rows (faithful.told.1 1) is.maker.row is.maker.there, is.maker.drawn))
+  | inr is ↦ absurd (omega (arith, no_zero e.rows (faithful.told.1.number 1) is.maker.row is.maker.there, is.maker.drawn))
 ]
 
 -- no superblock has more blocks than it has room for

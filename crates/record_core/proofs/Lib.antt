@@ -16,3 +16,5 @@ pub mod EndFacts
 pub mod HeldFacts
 pub mod ItemFacts
 pub mod FaithfulFacts
+pub mod AskedFacts
+pub mod RoomFacts

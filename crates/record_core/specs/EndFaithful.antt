@@ -1,5 +1,5 @@
 -- What an ended run keeps beside being sound: its rows agree with its roots, no cut is hidden, and each task has its root.
-use Rattle.std.specs.Prelude.{◌≡◌, ◌↔◌, ℕ, ◌<◌, ◌≤◌, true, Option, Some, None, List, slice_get}
+use Rattle.std.specs.Prelude.{◌≡◌, ◌↔◌, ℕ, ◌<◌, ◌≤◌, true, Option, Some, None, List, [], slice_get}
 use Rattle.task_syntax.specs.Places.{Each, EachAt}
 use Rattle.task_syntax.specs.declared.program.Root.{Root as RootLine}
 use Rattle.task_syntax.specs.declared.program.Program.{Program}
@@ -12,7 +12,7 @@ use Rattle.record_core.specs.Numbers.{by_number}
 use Rattle.record_core.specs.Journal.{is_cut, cause_of}
 use Rattle.record_core.specs.EndSeen.{EndSeen}
 use Rattle.record_core.specs.EndSound.{IsValueEnd}
-use Rattle.record_core.specs.EndCalls.{TellRun}
+use Rattle.record_core.specs.EndCalls.{Makers, TellRun}
 use Rattle.record_core.specs.declared.rows.ActivationRow.{ActivationRow}
 use Rattle.record_core.specs.declared.rows.TaskRow.{TaskRow}
 use Rattle.record_core.specs.declared.rows.Cause.TheVariants.{Clear, By}
@@ -53,7 +53,8 @@ pub record EndFaithful (p : Program) (e : EndSeen) : Type 0 where
   pub cuts : HidesNoCut e
   pub own : AreAsAsked p e
   -- There are calls and makers that tell the run: each accepted task is of a root, and the evidence is of a refused block.
-  pub told : (calls : List Accepted) × (makers : ℕ → ℕ) × TellRun p e calls makers
+  pub told : (calls : List Accepted) × (makers : Makers) × TellRun p e calls makers
   -- It is there exactly where an answer was null, and its counts fit the superblocks.
   pub shown : (e.nulls ≡ 0) ↔ (e.evidence_class ≡ None)
+  pub bare : e.nulls ≡ 0 → e.evidence ≡ []
   pub counts : Each e.evidence (HeldBlocks e.units)

@@ -1,4 +1,4 @@
-ghost use Rattle.record_core.specs.EndLaws.{NoOtherValue, NoCutWithoutRefusal, NoLimitToSpare, NoNullWithoutEvidence, NoOtherBlocks, NoCutByALater, NoCutShownAsValue, NoCutHidden, NoOtherPredecessor, NoValueBehindACut, NoRespawnOfTheCut, NoOwnExchanged, NoTaskWithoutRoot, NoOtherFirst, NoEvidenceUnasked, NoEvidenceOfNothing, NoCountTooLarge, SoundByItems};
+ghost use Rattle.record_core.specs.EndLaws.{NoOtherValue, NoCutWithoutRefusal, NoLimitToSpare, NoNullWithoutEvidence, NoOtherBlocks, NoCutByALater, NoCutShownAsValue, NoCutHidden, NoOtherPredecessor, NoValueBehindACut, NoRespawnOfTheCut, NoOwnExchanged, NoTaskWithoutRoot, NoOtherFirst, NoEvidenceUnasked, NoEvidenceOfNothing, NoCountTooLarge, NoNullWithRoom, NoWordsOfNothing, NoRootBehindNone, NoLaterNamed, NoOtherSpawn, NoTwoOfOneLine, NoBehindUnasked, NoRespawnUnasked, NoNullUnasked, NoLimitUnasked, NoAggregateBeforeMembers, NoNullsUncounted, NoWorkLeftOut, SoundByItems};
 
 /// What no sound end shows, and that such an end is all items of it.
 pub fn sound_ends()
@@ -8,6 +8,7 @@ pub fn sound_ends()
     ensures null { NoNullWithoutEvidence }
     ensures held { NoOtherBlocks }
     ensures earlier { NoCutByALater }
+    ensures room { NoNullWithRoom }
     ensures items { SoundByItems }
 {}
 
@@ -24,4 +25,20 @@ pub fn faithful_ends()
     ensures class { NoEvidenceUnasked }
     ensures nothing { NoEvidenceOfNothing }
     ensures count { NoCountTooLarge }
+    ensures words { NoWordsOfNothing }
+    ensures waits { NoRootBehindNone }
+    ensures later { NoLaterNamed }
+    ensures spawn { NoOtherSpawn }
+    ensures line { NoTwoOfOneLine }
+    ensures follows { NoBehindUnasked }
+    ensures again { NoRespawnUnasked }
+    ensures refused { NoNullUnasked }
+    ensures spent { NoLimitUnasked }
+    ensures gathered { NoAggregateBeforeMembers }
+    ensures nulls { NoNullsUncounted }
+{}
+
+/// What no end shows that counts as the meaning does.
+pub fn counted_ends()
+    ensures { NoWorkLeftOut }
 {}

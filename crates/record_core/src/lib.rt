@@ -4,7 +4,8 @@
 //! `specs/Journal.antt` says what is written into a journal and what every journal keeps. `specs/EndSound.antt` says which
 //! end may be trusted and which must be complete, and `specs/EndItems.antt` has its items one by one.
 //! `specs/EndFaithful.antt` says that no cut is hidden in it and that its tasks are those of its roots, by calls of which
-//! `specs/EndCalls.antt` speaks, and `specs/EndLaws.antt` what no such end shows. `specs/Sums.antt` and
+//! `specs/EndCalls.antt` speaks, each asked for by an instruction as `specs/EndAsks.antt` says; `specs/EndCounts.antt` says
+//! what it counts where nothing was refused, and `specs/EndLaws.antt` what no such end shows. `specs/Sums.antt` and
 //! `specs/Counting.antt` have sums and counts over lists. The functions on definitions do nothing, and the contract of
 //! each is a law.
 #![tactic(auto)]
@@ -22,7 +23,7 @@ mod tests;
 mod totals;
 
 pub use counts::{counts_change, counts_tell, first_dropped};
-pub use end_laws::{faithful_ends, sound_ends};
+pub use end_laws::{counted_ends, faithful_ends, sound_ends};
 pub use ended::Ended;
 pub use journal::PlainJournal;
 pub use journal_laws::{journal_grows, journal_is_whole, journal_keeps};

@@ -22,7 +22,8 @@ use Rattle.run_model.proofs.NamesFacts.{asks_call_named, renews_named, root_call
 use Rattle.run_model.proofs.LiveFacts.{task_snoc, task_within, one_started, was_row, task_then}
 use Rattle.run_model.proofs.NumbersParts.{next_row}
 use Rattle.run_model.proofs.RunsFacts.{running_within}
-use Rattle.run_model.proofs.CallsInvariant.{CallNames, Calls, CallsStand}
+use Rattle.record_core.specs.EndAsks.{CallNames}
+use Rattle.run_model.proofs.CallsInvariant.{Calls, CallsStand}
 use Rattle.run_model.proofs.Reached.{IsNextRoot}
 
 -- a number is drawn with its call

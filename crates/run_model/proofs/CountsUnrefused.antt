@@ -23,7 +23,7 @@ use Rattle.run_model.specs.State.{Body, Named, Refused, Run}
 use Rattle.run_model.specs.Step.{accepts, with_body, with_root, root_request, is_refused}
 use Rattle.run_model.specs.Move.{Notes, with_notes, RunsAt, Renews, Refuses, RefusesRoot, Move, RootMove}
 use Rattle.run_model.specs.End.{root_end, state_at}
-use Rattle.run_model.specs.Laws.{CountsWhereNothingIsRefused}
+use Rattle.run_model.specs.Laws.{CountsWhereNothingIsRefused, EndsCount}
 use Rattle.run_model.proofs.ByNumber.{snoc_new, snoc_old}
 use Rattle.run_model.proofs.Reached.{always, one_more_root}
 use Rattle.run_model.proofs.RootCount.{move_same_roots}
@@ -193,3 +193,7 @@ counts_unrefused p c plan end all formed valid run counted none =
     let now = subst (HeldUnrefused p c plan all) run.reached (unrefused_always p formed valid c plan all counted run.taken) in
     let free : Unrefused end = record { no_null = none.no_null; no_task = none.no_task; no_root = λ at e. none.no_root at (made_of (root_end end) end.roots at (Refused Limit) e) } in
     complete p c plan all end now.run (now.counts free) (end_quiet p c plan end run) (ap (λ (r : Run). length r.roots) (sym run.reached) ∙ root_count p c plan run.taken)
+
+-- so the end leaves no work out and adds none
+pub ends_count : EndsCount
+ends_count p c plan end formed valid run all counted none = counts_unrefused p c plan end all formed valid run counted none

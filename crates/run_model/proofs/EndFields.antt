@@ -136,7 +136,7 @@ module _ (plan : RunPlan) (r : Run) where
   null_end (Skipped at Null) = refl
   null_end (Skipped at Limit) = refl
 
-  null_roots : (words : List RootWord) → total null_root (map (root_end r) words) ≡ total null_word words
+  pub null_roots : (words : List RootWord) → total null_root (map (root_end r) words) ≡ total null_word words
   null_roots [] = refl
   null_roots (w ∷ words) = omega (arith, null_end w, null_roots words)
 

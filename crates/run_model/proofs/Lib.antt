@@ -66,6 +66,10 @@ pub mod CountsEnd
 pub mod CountsUnrefused
 pub mod MadeInvariant
 pub mod MadeKept
+pub mod AskersKept
+pub mod AskedInvariant
+pub mod AskedKept
+pub mod NullsBound
 pub mod OrderKept
 pub mod MadeMoves
 pub mod FaithfulEnds

@@ -1,30 +1,32 @@
 -- What a run keeps of who made its tasks: roots have theirs in order, every other was made by an activation that was not
 -- cut; a cut activation is its task's last; and the evidence is of a block that was refused.
-use Rattle.std.specs.Prelude.{◌≡◌, ℕ, ◌<◌, ◌⊎◌, true, Option, Some, None, IsSome, List, slice_get}
+use Rattle.std.specs.Prelude.{◌≡◌, ℕ, ◌<◌, ◌⊎◌, true, Option, Some, None, IsSome, List, length, slice_get}
 use Rattle.task_syntax.specs.declared.instr.Instr.{Instr}
 use Rattle.task_syntax.specs.declared.program.Root.{Root as RootLine}
 use Rattle.task_syntax.specs.declared.program.Program.{Program}
+use Rattle.task_meaning.specs.Frame.{FrameOf}
 use Rattle.task_meaning.specs.Worths.{Accepted, Respawn}
-use Rattle.record_core.specs.Numbers.{by_number, HasTask}
-use Rattle.record_core.specs.Journal.{JournalState, is_cut, finish_of, cause_of}
+use Rattle.frame_code.specs.Words.{OfKind}
+use Rattle.record_core.specs.Numbers.{by_number, found, HasTask}
+use Rattle.record_core.specs.Journal.{JournalState, is_cut, start_of, finish_of, cause_of}
 use Rattle.record_core.specs.EndSound.{kind_class, IsNoRetry}
-use Rattle.record_core.specs.EndCalls.{HasInstr, MayMake, class_wanted}
+use Rattle.record_core.specs.EndAsks.{HasInstr, class_wanted}
+use Rattle.record_core.specs.EndCalls.{MayMake}
 use Rattle.record_core.specs.EndFaithful.{IsLastOf}
 use Rattle.record_core.specs.declared.rows.ActivationRow.{ActivationRow}
 use Rattle.record_core.specs.declared.rows.TaskRow.{TaskRow}
 use Rattle.record_core.specs.declared.rows.Cause.TheVariants as cause
 use Rattle.record_core.specs.declared.rows.CutTag.TheVariants.{Null}
-use Rattle.run_model.specs.State.{RootWord, Named, Refused, Evidence, Run}
+use Rattle.run_model.specs.State.{Body, RootWord, Named, Refused, Evidence, Run}
 
 -- a root has this task
 abbrev pub IsNamed : List RootWord → ℕ → Type 0
 IsNamed roots t = (at : ℕ) × (slice_get roots at ≡ Some (Named t))
 
--- the task is no root's, and an activation that was not cut may have made it
-pub record IsMadeNow (p : Program) (j : JournalState) (calls : List Accepted) (roots : List RootWord) (t : ℕ) : Type 0 where
+-- the task is no root's, and activation n, which was not cut, may have made it in frame q
+pub record IsMadeNow (p : Program) (j : JournalState) (calls : List Accepted) (roots : List RootWord) (t n : ℕ) (q : FrameOf ℕ) : Type 0 where
   pub not_named : IsNamed roots t → ⊥
-  pub number : ℕ
-  pub maker : MayMake p j.rows calls t number
+  pub maker : MayMake p j.rows calls t n q
   pub uncut : (u : ℕ) → maker.row.after ≡ Some u → IsSome (finish_of j.tasks u) × (cause_of j.tasks u ≡ cause.Clear)
 
 -- a block of this class was refused
@@ -42,10 +44,33 @@ pub record Order (j : JournalState) (roots : List RootWord) : Type 0 where
 abbrev pub OrderStands : Run → Type 0
 OrderStands r = Order r.journal r.roots
 
+-- who asked for a number, and in which frame
+pub record Asker : Type 0 where
+  pub number : ℕ
+  pub frame : FrameOf ℕ
+
+-- one frame is behind another in the same state
+abbrev pub IsAhead : FrameOf ℕ → FrameOf ℕ → Type 0
+IsAhead q next = (q.state ≡ next.state) × (q.at < next.at)
+
+-- Who asked for each number: an activation asks line by line, none before it has started, and the one that runs has gone on.
+pub record Askers (story : List (Option Asker)) (rows : List ActivationRow) (bodies : List (Option Body)) (running : Option ℕ) : Type 0 where
+  pub beside : length story ≡ length rows
+  pub rise : (t u : ℕ) (a b : Asker) → found story t ≡ Some a → found story u ≡ Some b → a.number ≡ b.number → t < u → IsAhead a.frame b.frame
+  pub begun : (t : ℕ) (a : Asker) → found story t ≡ Some a → IsSome (start_of rows a.number)
+  pub now : (n t : ℕ) (row : ActivationRow) (q : FrameOf ℕ) (a : Asker) → running ≡ Some n → by_number rows n ≡ Some row → found bodies row.task ≡ Some (OfKind q)
+      → found story t ≡ Some a → a.number ≡ n → IsAhead a.frame q
+
+-- the task was made by whoever asked for it
+abbrev pub IsMadeAs : Program → JournalState → List Accepted → List RootWord → List (Option Asker) → ℕ → Type 0
+IsMadeAs p j calls roots story t = (a : Asker) × (found story t ≡ Some a) × IsMadeNow p j calls roots t a.number a.frame
+
 -- each task has its root or its maker, and the evidence is of a refused block
-pub record Made (p : Program) (j : JournalState) (calls : List Accepted) (roots : List RootWord) (evidence : Option Evidence) : Type 0 where
-  pub made : (t : ℕ) → HasTask j.rows t → IsNamed roots t ⊎ IsMadeNow p j calls roots t
+pub record Made (p : Program) (j : JournalState) (calls : List Accepted) (roots : List RootWord) (evidence : Option Evidence) (bodies : List (Option Body)) (running : Option ℕ) : Type 0 where
+  pub story : List (Option Asker)
+  pub askers : Askers story j.rows bodies running
+  pub made : (t : ℕ) → HasTask j.rows t → IsNamed roots t ⊎ IsMadeAs p j calls roots story t
   pub refused : (e : Evidence) → evidence ≡ Some e → IsRefused p calls roots j.tasks e.class
 
 abbrev pub MadeStands : Program → Run → Type 0
-MadeStands p r = Made p r.journal r.calls r.roots r.evidence
+MadeStands p r = Made p r.journal r.calls r.roots r.evidence r.bodies r.running

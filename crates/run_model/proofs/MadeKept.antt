@@ -7,11 +7,13 @@ use Rattle.std.proofs.lemmas.Bool.{cases_eq, false≢true}
 use Rattle.std.proofs.lemmas.Option.{none-some, same_Some}
 use Rattle.task_syntax.specs.declared.instr.Instr.{Instr}
 use Rattle.task_syntax.specs.declared.program.Program.{Program}
+use Rattle.task_meaning.specs.Frame.{FrameOf}
 use Rattle.task_meaning.specs.Worths.{Accepted, OfCall}
 use Rattle.record_core.specs.Numbers.{by_number, found, HasTask}
 use Rattle.record_core.specs.Journal.{JournalState, task_or, with_accepted, with_begun, with_finished, start_in, start_of, finish_of, cause_of, is_cut, Starts, Finishes, IsJournal}
 use Rattle.record_core.specs.JournalLaws.{GrowsFrom}
-use Rattle.record_core.specs.EndCalls.{HasInstr, MayMake}
+use Rattle.record_core.specs.EndAsks.{HasInstr, StandsAt}
+use Rattle.record_core.specs.EndCalls.{MayMake}
 use Rattle.record_core.specs.EndFaithful.{IsLastOf}
 use Rattle.record_core.specs.declared.rows.ActivationRow.{ActivationRow}
 use Rattle.record_core.specs.declared.rows.Cause.{Cause}
@@ -20,7 +22,7 @@ use Rattle.run_model.specs.State.{Outcome, RootWord, Named, Evidence, Run}
 use Rattle.run_model.specs.Step.{arrives, waits_or_queues}
 use Rattle.run_model.proofs.ByNumber.{has_some, number_within, snoc_cases}
 use Rattle.run_model.proofs.LiveFacts.{task_within, one_started}
-use Rattle.run_model.proofs.MadeInvariant.{IsNamed, IsMadeNow, IsRefused, MadeStands}
+use Rattle.run_model.proofs.MadeInvariant.{Asker, Askers, IsNamed, IsMadeAs, IsMadeNow, IsRefused, MadeStands}
 use Rattle.run_model.proofs.RunStands.{RunStands}
 
 -- What the row of a number was before: the same, without a start, or nothing; a new number is of a new task or of one that
@@ -98,13 +100,25 @@ module _ (p : Program) (j k : JournalState) (calls calls' : List Accepted) (root
   has_stays : (t : ℕ) (instr : Instr) → HasInstr p calls t instr → HasInstr p calls' t instr
   has_stays t instr has = record { call = has.call; waits = has.waits; is_call = goes.calls_stay t (OfCall has.call has.waits) has.is_call; in_kind = has.in_kind }
 
+  -- where a task stands at a line, it has the call still
+  pub stands_stays : (t : ℕ) (q : FrameOf ℕ) (instr : Instr) → StandsAt p calls t q instr → StandsAt p calls' t q instr
+  stands_stays t q instr stands = record {
+    call = stands.call;
+    waits = stands.waits;
+    is_call = goes.calls_stay t (OfCall stands.call stands.waits) stands.is_call;
+    of_kind = stands.of_kind;
+    line = stands.line;
+    there = stands.there;
+    is = stands.is;
+  }
+
   -- whoever may have made a task, still may
-  maker_stays : (t n : ℕ) → t ≤ length j.rows → MayMake p j.rows calls t n → MayMake p k.rows calls' t n
-  maker_stays t n within maker = record {
+  maker_stays : (t n : ℕ) (q : FrameOf ℕ) → t ≤ length j.rows → MayMake p j.rows calls t n q → MayMake p k.rows calls' t n q
+  maker_stays t n q within maker = record {
     row = maker.row;
     there = stays n maker.row maker.there maker.begun;
     instr = maker.instr;
-    has = has_stays maker.row.task maker.instr maker.has;
+    stands = stands_stays maker.row.task q maker.instr maker.stands;
     made = maker.made;
     is_made = goes.calls_stay t maker.made maker.is_made;
     asks = maker.asks;
@@ -119,26 +133,25 @@ module _ (p : Program) (j k : JournalState) (calls calls' : List Accepted) (root
       next m other same later (RowWas.starts was e waits task after start many) = maker.next m was e (sym task ∙ same) later
       next m other same later (RowWas.drawn e waits open_) = omega (arith, e, within)
 
-      before_by : (s q : ℕ) (row : ActivationRow) → maker.row.start ≡ Some q → row.start ≡ Some s → RowWas j k t row → (q : ℕ) × (maker.row.start ≡ Some q) × (q < s)
-      before_by s q row is_start written (RowWas.stood e) = maker.before s (ap start_in e ∙ written)
-      before_by s q row is_start written (RowWas.starts was e waits task after start many) =
-          let before_now = (journal.stamped.within (Starts n) q (ap start_in maker.there ∙ is_start)).1 in
+      before_by : (s b : ℕ) (row : ActivationRow) → maker.row.start ≡ Some b → row.start ≡ Some s → RowWas j k t row → (b : ℕ) × (maker.row.start ≡ Some b) × (b < s)
+      before_by s b row is_start written (RowWas.stood e) = maker.before s (ap start_in e ∙ written)
+      before_by s b row is_start written (RowWas.starts was e waits task after start many) =
+          let before_now = (journal.stamped.within (Starts n) b (ap start_in maker.there ∙ is_start)).1 in
           let same : j.stamps + 1 ≡ s = same_Some (j.stamps + 1) s (sym start ∙ written) in
-          (q, is_start, omega (arith, before_now, same))
-      before_by s q row is_start written (RowWas.drawn e waits open_) = absurd (none-some s (sym waits ∙ written))
+          (b, is_start, omega (arith, before_now, same))
+      before_by s b row is_start written (RowWas.drawn e waits open_) = absurd (none-some s (sym waits ∙ written))
 
-      before : (s : ℕ) → start_of k.rows t ≡ Some s → (q : ℕ) × (maker.row.start ≡ Some q) × (q < s)
+      before : (s : ℕ) → start_of k.rows t ≡ Some s → (b : ℕ) × (maker.row.start ≡ Some b) × (b < s)
       before s e =
           let (row, there, written) = start_row k.rows t s e in
-          let (q, is_start) = has_some maker.row.start maker.begun in
-          before_by s q row is_start written (goes.was t row there)
+          let (b, is_start) = has_some maker.row.start maker.begun in
+          before_by s b row is_start written (goes.was t row there)
 
-  made_stays : (t : ℕ) → t ≤ length j.rows → IsMadeNow p j calls roots t → IsMadeNow p k calls' roots' t
+  made_stays : (t n : ℕ) (q : FrameOf ℕ) → t ≤ length j.rows → IsMadeNow p j calls roots t n q → IsMadeNow p k calls' roots' t n q
   unfolding maker_stays
-  made_stays t within made = record {
+  made_stays t n q within made = record {
     not_named = λ named. made.not_named (goes.named_was t within named);
-    number = made.number;
-    maker = maker_stays t made.number within made.maker;
+    maker = maker_stays t n q within made.maker;
     uncut = λ u after. let was = made.uncut u after in (finish_stays u was.0, cause_stays u was.0 ∙ was.1);
   }
 
@@ -200,32 +213,39 @@ module _ (p : Program) (j k : JournalState) (calls calls' : List Accepted) (root
       by_row (RowWas.drawn e waits open_) = absurd (false≢true (sym (ap is_some waits) ∙ started))
 
   -- each task that was there has its root or its maker still
-  tasks_stay : ((t : ℕ) → HasTask j.rows t → IsNamed roots t ⊎ IsMadeNow p j calls roots t) → ((t : ℕ) → HasTask k.rows t → length j.rows < t → IsNamed roots' t ⊎ IsMadeNow p k calls' roots' t)
-      → (t : ℕ) → HasTask k.rows t → IsNamed roots' t ⊎ IsMadeNow p k calls' roots' t
-  tasks_stay was further t (row, there, is) = by (goes.was t row there)
+  tasks_stay : (story story' : List (Option Asker)) → ((t : ℕ) (a : Asker) → found story t ≡ Some a → found story' t ≡ Some a)
+      → ((t : ℕ) → HasTask j.rows t → IsNamed roots t ⊎ IsMadeAs p j calls roots story t) → ((t : ℕ) → HasTask k.rows t → length j.rows < t → IsNamed roots' t ⊎ IsMadeAs p k calls' roots' story' t)
+      → (t : ℕ) → HasTask k.rows t → IsNamed roots' t ⊎ IsMadeAs p k calls' roots' story' t
+  tasks_stay story story' told was further t (row, there, is) = by (goes.was t row there)
     where
-      stay : HasTask j.rows t → IsNamed roots' t ⊎ IsMadeNow p k calls' roots' t
-      stay task = ⊎_elim (λ named. inl (named.0, goes.roots_stay named.0 (Named t) named.1)) (λ made. inr (made_stays t (task_within j.rows t task).1 made)) (was t task)
+      stay : HasTask j.rows t → IsNamed roots' t ⊎ IsMadeAs p k calls' roots' story' t
+      stay task = ⊎_elim
+          (λ named. inl (named.0, goes.roots_stay named.0 (Named t) named.1))
+          (λ made. inr (made.0, told t made.0 made.1, made_stays t made.0.number made.0.frame (task_within j.rows t task).1 made.2))
+          (was t task)
 
-      by : RowWas j k t row → IsNamed roots' t ⊎ IsMadeNow p k calls' roots' t
+      by : RowWas j k t row → IsNamed roots' t ⊎ IsMadeAs p k calls' roots' story' t
       by (RowWas.stood e) = stay (row, e, is)
       by (RowWas.starts b e waits task after start many) = stay (b, e, sym task ∙ is)
       by (RowWas.drawn e waits open_) = further t (row, there, is) (omega (arith, e))
 
 -- a move by which things stand still, or are new as is shown
 pub made_goes : (p : Program) (limit : ℕ) (r s : Run) → RunStands p limit r → Goes r.journal s.journal r.calls s.calls r.roots s.roots
-    → ((t : ℕ) → HasTask s.journal.rows t → length r.journal.rows < t → IsNamed s.roots t ⊎ IsMadeNow p s.journal s.calls s.roots t)
-    → ((e : Evidence) → s.evidence ≡ Some e → IsRefused p s.calls s.roots s.journal.tasks e.class) → MadeStands p r → MadeStands p s
-made_goes p limit r s run goes further refused made = record {
-  made = tasks_stay p r.journal s.journal r.calls s.calls r.roots s.roots run.journal.journal goes made.made further;
+    → (made : MadeStands p r) (story : List (Option Asker)) → ((t : ℕ) (a : Asker) → found made.story t ≡ Some a → found story t ≡ Some a) → Askers story s.journal.rows s.bodies s.running
+    → ((t : ℕ) → HasTask s.journal.rows t → length r.journal.rows < t → IsNamed s.roots t ⊎ IsMadeAs p s.journal s.calls s.roots story t)
+    → ((e : Evidence) → s.evidence ≡ Some e → IsRefused p s.calls s.roots s.journal.tasks e.class) → MadeStands p s
+made_goes p limit r s run goes made story told askers further refused = record {
+  story = story;
+  askers = askers;
+  made = tasks_stay p r.journal s.journal r.calls s.calls r.roots s.roots run.journal.journal goes made.story story told made.made further;
   refused = refused;
 }
 
 -- an arrival changes nothing of this
 pub arrives_made : (p : Program) (r : Run) (n : ℕ) (after : Option ℕ) → MadeStands p r → MadeStands p (arrives r n after)
-arrives_made p r n None now = record { made = now.made; refused = now.refused }
+arrives_made p r n None now = record { story = now.story; askers = now.askers; made = now.made; refused = now.refused }
 arrives_made p r n (Some u) now = by (found r.outcomes u)
   where
     by : (o : Option Outcome) → MadeStands p (waits_or_queues o r n u)
-    by None = record { made = now.made; refused = now.refused }
-    by (Some outcome) = record { made = now.made; refused = now.refused }
+    by None = record { story = now.story; askers = now.askers; made = now.made; refused = now.refused }
+    by (Some outcome) = record { story = now.story; askers = now.askers; made = now.made; refused = now.refused }

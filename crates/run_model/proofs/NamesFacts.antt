@@ -26,7 +26,7 @@ use Rattle.run_model.specs.State.{Body, RootWord, Named, Refused, Skipped, Run}
 use Rattle.run_model.specs.Step.{Request, task_list, own_task, own_tasks, root_request}
 use Rattle.run_model.specs.Move.{Notes, Goes, Asks, Renews}
 use Rattle.run_model.proofs.NumbersInvariant.{BodyNames}
-use Rattle.run_model.proofs.CallsInvariant.{CallNames}
+use Rattle.record_core.specs.EndAsks.{CallNames}
 
 -- another future at a position
 pub future_at_set : {A : Type 0} (futures : List (Option A)) (to x : ℕ) (o : Option A) (u : A) → future_at (slice_set futures to o) x ≡ Some u → (o ≡ Some u) ⊎ (future_at futures x ≡ Some u)

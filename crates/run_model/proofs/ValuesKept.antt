@@ -4,7 +4,10 @@ use Rattle.std.specs.Prelude.{IfSome}
 use Rattle.std.proofs.lemmas.Option.{none-some}
 use Rattle.task_syntax.specs.Places.{Each}
 use Rattle.task_syntax.specs.Form.{IsWellFormed, IsFormedInstr}
-use Rattle.task_syntax.specs.Valid.{Held, IsValid, IsSoundInstr}
+use Rattle.task_syntax.specs.Valid.{Held, HeldArgument, IsValid, IsSoundInstr}
+use Rattle.task_syntax.specs.declared.instr.Argument.{Argument}
+use Rattle.task_syntax.specs.declared.instr.Argument.TheVariants as argument
+use Rattle.task_syntax.specs.declared.instr.Instr.TheVariants.{Spawn}
 use Rattle.task_syntax.specs.declared.value.Value.{Value}
 use Rattle.task_syntax.specs.declared.value.Value.TheVariants.{Number, Trapped}
 use Rattle.task_syntax.specs.declared.value.Priority.{Priority}
@@ -25,6 +28,7 @@ use Rattle.task_meaning.proofs.FrameEnds.{accepted_aggregates-rest, reads-rest, 
 use Rattle.task_meaning.proofs.AggregateRest.{aggregate-worths}
 use Rattle.frame_code.specs.Words.{OfKind, OfMembers}
 use Rattle.record_core.specs.Numbers.{by_number, flat}
+use Rattle.record_core.specs.EndAsks.{CallNames, PassesTask}
 use Rattle.record_core.specs.Journal.{next_number}
 use Rattle.record_core.specs.EndSeen.{RunPlan}
 use Rattle.record_core.specs.declared.rows.Cause.TheVariants as cause
@@ -35,7 +39,7 @@ use Rattle.run_model.specs.Move.{Notes, with_notes, RunsAt, Goes, Asks, Answers,
 use Rattle.run_model.proofs.ByNumber.{snoc_new, found_old, none_of_empty, has_some}
 use Rattle.run_model.proofs.NumbersInvariant.{NumbersStand}
 use Rattle.run_model.proofs.NamesFacts.{asks_call_named, root_call_named}
-use Rattle.run_model.proofs.CallsInvariant.{CallNames, CallsStand}
+use Rattle.run_model.proofs.CallsInvariant.{CallsStand}
 use Rattle.run_model.proofs.NumbersParts.{started_runs, held_starts}
 use Rattle.run_model.proofs.RunsFacts.{running_task, running_number}
 use Rattle.run_model.proofs.NumbersKept.{numbers_first, numbers_root, numbers_move}
@@ -134,6 +138,18 @@ module _ (p : Program) (formed : IsWellFormed p) (valid : IsValid p) (c : Column
           let is_sound = subst (λ instr. IsSoundInstr p seat.kind seat.state q.at instr) is_spawn (seat_sound p formed valid c r after true q seat line there) in
           let (callee, is_callee) = item_at p.kinds kind is_formed.1 in
           waited_names waits (is_sound callee is_callee).behind_held
+
+      -- and each task that it passes
+      pub spawn_passes : (to kind : ℕ) (arguments : List Argument) (waits : Option ℕ) (priority : Priority) (retry : Bool) → line.instr ≡ Spawn to kind arguments waits priority retry → Each arguments (PassesTask q)
+      spawn_passes to kind arguments waits priority retry is_spawn =
+          let is_formed = subst (λ instr. IsFormedInstr p seat.kind seat.state q.at instr) is_spawn (seat_formed p formed valid c r after true q seat line there) in
+          let is_sound = subst (λ instr. IsSoundInstr p seat.kind seat.state q.at instr) is_spawn (seat_sound p formed valid c r after true q seat line there) in
+          let (callee, is_callee) = item_at p.kinds kind is_formed.1 in
+          λ at a e. passes a ((is_sound callee is_callee).held at a e)
+        where
+          passes : (a : Argument) → HeldArgument seat.state q.at a → PassesTask q a
+          passes (argument.Number n) held = tt
+          passes (argument.Future x) held = has_some (future_at q.futures x) (seat.held x (held seat.facts seat.way))
 
       -- and what a respawn is behind
       pub again_names : (target : ℕ) (waits : Option ℕ) → act_of c line.instr q ≡ Respawns target waits → NamesTask q waits

@@ -25,7 +25,8 @@ use Rattle.run_model.specs.Step.{Request, arrives, waits_or_queues, completes, a
 use Rattle.run_model.specs.Move.{RunsAt, begins}
 use Rattle.run_model.proofs.ByNumber.{length_snoc, number_within, member_at, snoc_new, snoc_cases, found_new, found_other, found_put, found_put_other, found_within}
 use Rattle.run_model.proofs.NumbersInvariant.{NumbersStand, IsLive}
-use Rattle.run_model.proofs.CallsInvariant.{CallNames, CallsStand}
+use Rattle.record_core.specs.EndAsks.{CallNames}
+use Rattle.run_model.proofs.CallsInvariant.{CallsStand}
 use Rattle.record_core.specs.EndCalls.{IsRowOf}
 use Rattle.run_model.proofs.LiveFacts.{read_snoc, outcome_snoc, task_within, same_row, was_row, one_started, was_live, no_wait}
 use Rattle.run_model.proofs.NumbersParts.{next_row}

@@ -1,5 +1,5 @@
 -- The laws of the run on one thread.
-use Rattle.std.specs.Prelude.{◌≡◌, ◌≢◌, ℕ, ◌+◌, ◌*◌, ◌<◌, ◌≤◌, Some, None, List, [], ◌∷◌, ◌++◌, IsSome, MatchOption, length, slice_get}
+use Rattle.std.specs.Prelude.{◌≡◌, ℕ, ◌+◌, ◌*◌, ◌<◌, ◌≤◌, Some, None, List, [], ◌∷◌, ◌++◌, IsSome, MatchOption, length, slice_get}
 use Rattle.task_syntax.specs.Places.{Each, EachAt}
 use Rattle.task_syntax.specs.Form.{IsWellFormed}
 use Rattle.task_syntax.specs.Valid.{IsValid}
@@ -18,6 +18,7 @@ use Rattle.record_core.specs.JournalLaws.{GrowsFrom}
 use Rattle.record_core.specs.EndSeen.{EndSeen, RunPlan}
 use Rattle.record_core.specs.EndSound.{EndSound, EndComplete, IsComplete, HasNoRetry, HasEvidence, AreOwn, IsCutAsNamed, null_ends, own_of_class}
 use Rattle.record_core.specs.EndCalls.{IsOwn}
+use Rattle.record_core.specs.EndCounts.{EndCounts, NothingRefused}
 use Rattle.record_core.specs.EndFaithful.{EndFaithful, HidesNoCut, AreAsAsked}
 use Rattle.record_core.specs.declared.rows.ActivationRow.{ActivationRow}
 use Rattle.record_core.specs.declared.rows.Cause.TheVariants as cause
@@ -146,14 +147,12 @@ EndsAreSound = (p : Program) (c : Columns) (plan : RunPlan) (end : Run) → IsWe
 abbrev pub EndsAreComplete : Type 0
 EndsAreComplete = (p : Program) (c : Columns) (plan : RunPlan) (end : Run) → IsWellFormed p → IsValid p → IsGeometry plan.superblocks plan.units → OneThreadRun p c plan end → EndComplete p c plan (end_seen plan end)
 
--- at the end no null answer was counted, and no task and no root was refused at the limit
-pub record NothingRefused (e : EndSeen) : Type 0 where
-  pub no_null : e.nulls ≡ 0
-  pub no_task : (t : ℕ) → cause_of e.tasks t ≢ cause.Limit
-  pub no_root : (at : ℕ) → slice_get e.roots at ≢ Some (Cut Limit Host)
-
 -- where nothing was refused, each root has a value, and the run accepted exactly what the meaning counts, whatever the size of
 -- the pool and the limit are
 abbrev pub CountsWhereNothingIsRefused : Type 0
 CountsWhereNothingIsRefused = (p : Program) (c : Columns) (plan : RunPlan) (end : Run) (k : Counts) → IsWellFormed p → IsValid p → OneThreadRun p c plan end → RootsCount p c k
     → NothingRefused (end_seen plan end) → IsComplete (end_seen plan end) k
+
+-- so the end of a run of a valid program leaves no work out and adds none
+abbrev pub EndsCount : Type 0
+EndsCount = (p : Program) (c : Columns) (plan : RunPlan) (end : Run) → IsWellFormed p → IsValid p → OneThreadRun p c plan end → EndCounts p c (end_seen plan end)

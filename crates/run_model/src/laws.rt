@@ -1,4 +1,4 @@
-ghost use Rattle.run_model.specs.Laws.{BlocksAreApart, CountsWhereNothingIsRefused, EndsAreAsAsked, EndsAreComplete, EndsAreFaithful, EndsAreInOrder, EndsAreSound, EndsAskRootsFirst, EndsHaveEvidence, EndsHideNoCut, EndsHoldRoots, EndsSkipAsNamed, OneEnd, PlacesAsPoolsGive, PoolsAreSound, RunsEnd, StartsOnce};
+ghost use Rattle.run_model.specs.Laws.{BlocksAreApart, CountsWhereNothingIsRefused, EndsAreAsAsked, EndsAreComplete, EndsAreFaithful, EndsAreInOrder, EndsAreSound, EndsAskRootsFirst, EndsCount, EndsHaveEvidence, EndsHideNoCut, EndsHoldRoots, EndsSkipAsNamed, OneEnd, PlacesAsPoolsGive, PoolsAreSound, RunsEnd, StartsOnce};
 ghost use Rattle.run_model.specs.Move.{RootsMove, StepsMove};
 ghost use Rattle.run_model.specs.RuleRuns.{RuleRuns};
 ghost use Rattle.run_model.specs.ExampleRuns.{ExampleRuns};
@@ -91,4 +91,9 @@ pub fn ends_are_complete()
 /// activations are accepted, and each root has a value, whatever the size of the pool is.
 pub fn counts_where_nothing_is_refused()
     ensures { CountsWhereNothingIsRefused }
+{}
+
+/// So the end of a run of a valid program leaves no work out, and adds none.
+pub fn ends_count()
+    ensures { EndsCount }
 {}

@@ -13,6 +13,7 @@ mod laws;
 
 pub use laws::{
     blocks_are_apart, counts_where_nothing_is_refused, ends_are_complete, ends_are_faithful,
-    ends_are_in_order, ends_are_sound, ends_show_the_pool, one_end, places_as_pools_give,
-    pools_are_sound, rules_by_example, runs_end, starts_once, steps_are_moves, worked_runs,
+    ends_are_in_order, ends_are_sound, ends_count, ends_show_the_pool, one_end,
+    places_as_pools_give, pools_are_sound, rules_by_example, runs_end, starts_once,
+    steps_are_moves, worked_runs,
 };

@@ -1,6 +1,7 @@
 use Rattle.record_core.proofs.EndFacts.{no_other_value, refusal_of, limit_met, null_shown, cut_by_earlier}
 use Rattle.record_core.proofs.HeldFacts.{held_by_roots}
 use Rattle.record_core.proofs.ItemFacts.{sound_by_items}
+use Rattle.record_core.proofs.RoomFacts.{no_null_with_room}
 use Rattle.record_core.proofs.end_laws.sound_ends.Goals as goal
 
 pub returns-clause-value : goal.returns-clause-value
@@ -23,3 +24,6 @@ returns-clause-earlier c = cut_by_earlier
 
 pub returns-clause-items : goal.returns-clause-items
 returns-clause-items c = sound_by_items
+
+pub returns-clause-room : goal.returns-clause-room
+returns-clause-room c = no_null_with_room
