@@ -63,10 +63,7 @@ impl<'a> CheckedCode<'a> {
         requires { kind < length self.now.kinds }
         ensures { result.now ≡ layout_of (variables_at self.now kind) }
     {
-        match self.layouts.get(kind as usize) {
-            Some(layout) => layout,
-            None => unreachable!(),
-        }
+        &self.layouts[kind as usize]
     }
 
     /// The variables of a kind.

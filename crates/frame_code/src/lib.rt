@@ -10,6 +10,7 @@
 
 mod act;
 mod arithmetic;
+mod bare_frame;
 mod code;
 mod entries;
 mod few;

@@ -7,10 +7,7 @@ fn item<T>(items: &List<T>, at: u16) -> &T
     requires { at < length items.now }
     ensures { slice_get items.now at ≡ Some result.now }
 {
-    match items.get(at as usize) {
-        Some(item) => item,
-        None => unreachable!(),
-    }
+    &items.as_slice()[at as usize]
 }
 
 /// The kind at a position.

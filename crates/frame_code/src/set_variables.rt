@@ -6,6 +6,7 @@ ghost use Rattle.frame_code.specs.Words.{OfKind, unit_named, variables_at, body_
 ghost use Rattle.frame_code.specs.Frames.{IsFrame};
 ghost use Rattle.frame_code.specs.Setting.{HasSort, bare_call, unit_in, IsSetNumber, IsSetFuture};
 
+use crate::bare_frame::bare_frame;
 use crate::code::CheckedCode;
 use crate::lookup::kind_at;
 use crate::places::KindVariables;
@@ -25,11 +26,7 @@ pub fn at_entry(checked: &CheckedCode, kind: u16, frame: &mut Frame)
         state: 0,
         at: 0,
     };
-    frame.clear();
-    frame.push(control.pack());
-    for _variable in 0..variables {
-        frame.push(0);
-    }
+    bare_frame(frame, control.pack(), variables);
 }
 
 /// The variables of the kind of a task's frame.

@@ -9,6 +9,7 @@ use Rattle.kt_words.specs.Ranges.{IsGeometry, IsUnitCount}
 use Rattle.kt_words.specs.declared.geometry.Geometry.{Geometry}
 use Rattle.kt_words.specs.declared.plan.Plan.{Plan}
 use Rattle.kt_words.proofs.GeometryFacts.{units_by_name}
+use Rattle.record_core.specs.EndCounts.{EndCounts}
 use Rattle.record_core.specs.EndFaithful.{EndFaithful}
 use Rattle.record_core.specs.EndSeen.{EndSeen, RunPlan, plan_of}
 use Rattle.record_core.specs.EndSound.{EndComplete, EndSound}
@@ -17,6 +18,7 @@ use Rattle.run_model.specs.End.{EndsAs, OneThreadRun, end_seen}
 use Rattle.run_model.proofs.RootValues.{ends_sound}
 use Rattle.run_model.proofs.FaithfulEnds.{ends_faithful}
 use Rattle.run_model.proofs.CountsEnd.{ends_complete}
+use Rattle.run_model.proofs.CountsUnrefused.{ends_count}
 use Rattle.plain_state.specs.declared.record.RootState.{RootState}
 use Rattle.plain_state.specs.declared.record.RootState.TheVariants as root
 use Rattle.plain_state.specs.Engine.{EngineState, unused_engine}
@@ -78,6 +80,9 @@ module _ (p : Program) (c : Columns) (plan : RunPlan) (may : MayRun p plan) (e :
 
   pub end_complete : EndComplete p c plan answer
   end_complete = subst (EndComplete p c plan) (sym seen) (ends_complete p c plan end.run may.formed may.valid may.geometry is_over)
+
+  pub end_counts : EndCounts p c answer
+  end_counts = subst (EndCounts p c) (sym seen) (ends_count p c plan end.run may.formed may.valid is_over)
 
   known_at : (at : ℕ) (state : RootState) → slice_get e.roots at ≡ Some state → HasRecord e.store state
   known_at at (root.Named unit) there = known_within e (Some unit) (ended_roots_are_known p c plan e end.run at unit may end.rests there)

@@ -28,6 +28,7 @@ pub enum Answer {
 impl Engine {
     /// Asks for a block of a class, and for a number behind a task. The pool is asked first. A null
     /// answer is counted.
+    #[inline(always)]
     pub fn ask(&mut self, class: u8, after: Option<u32>) -> Answer
         requires class { class ≤ 3 }
         requires after { IfSome after (HasTask self.old.journal.rows) }
@@ -48,6 +49,7 @@ impl Engine {
     }
 
     /// Makes the record of a new task, which is about to be named once.
+    #[inline(always)]
     pub fn make(
         &mut self,
         checked: &CheckedCode,
@@ -132,6 +134,7 @@ impl Engine {
 
     /// A variable of the running task names the task in a block, which was held for it, and the
     /// task goes on.
+    #[inline(always)]
     pub fn name(&mut self, checked: &CheckedCode, frame: &mut Frame, to: u16, unit: u32)
         requires frame { IsFrame checked.now frame.old.items }
         requires variable { HasSort checked.now Future to frame.old.items }

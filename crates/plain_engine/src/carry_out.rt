@@ -208,7 +208,7 @@ impl Engine {
         let members = units_named(checked, frame, request.members.as_slice());
         let class = members_class(members.as_slice().len() as u8);
         let after = first_of(members.as_slice());
-        members_frame(members.as_slice(), &mut desk.first);
+        members_frame(members.as_slice(), &mut desk.gathered);
         self.spawn_new(
             checked,
             unit,
@@ -218,11 +218,12 @@ impl Engine {
             request.priority,
             request.retry,
             request.to,
-            &desk.first,
+            &desk.gathered,
         )
     }
 
     // The running task asks for a new one, of a class, behind a task, with a first frame.
+    #[inline(always)]
     fn spawn_new(
         &mut self,
         checked: &CheckedCode,
@@ -262,6 +263,7 @@ impl Engine {
     }
 
     // The running task was refused a new one. After a null answer it may try again later.
+    #[cold]
     fn refused(&mut self, checked: &CheckedCode, unit: u32, frame: &Frame, tag: CutTag, retry: bool)
         requires frame { IsFrame checked.now frame.now.items }
         requires refused { MayBeRefused checked.now self.old unit frame.now.items tag retry }

@@ -57,6 +57,7 @@ impl Engine {
     }
 
     /// Counts a null answer. The first keeps its class and the superblocks.
+    #[cold]
     pub fn count_null(&mut self, class: u8)
         requires { self.old.nulls + 1 < 2 ^ 64 }
         ensures { self.new ≡ null_counted class self.old }

@@ -27,6 +27,7 @@ fn cause_of_refusal(tag: CutTag) -> Cause
 
 impl Engine {
     /// The running task ends. Its waiters may start, and it gives up what its frame names.
+    #[inline(always)]
     fn end_task(
         &mut self,
         checked: &CheckedCode,
@@ -49,6 +50,7 @@ impl Engine {
     }
 
     /// The running task ends so.
+    #[inline(always)]
     pub fn finish(
         &mut self,
         checked: &CheckedCode,
@@ -65,6 +67,7 @@ impl Engine {
     }
 
     /// The running task gives a value.
+    #[inline(always)]
     pub fn gives(&mut self, checked: &CheckedCode, unit: u32, frame: &Frame, value: Value)
         requires frame { IsFrame checked.now frame.now.items }
         requires ends { MayEnd checked.now self.old unit frame.now.items (Gave value) Clear }
@@ -74,6 +77,7 @@ impl Engine {
     }
 
     /// The running task is refused what it asked for.
+    #[cold]
     pub fn refuse(&mut self, checked: &CheckedCode, unit: u32, frame: &Frame, tag: CutTag)
         requires frame { IsFrame checked.now frame.now.items }
         requires ends { MayEnd checked.now self.old unit frame.now.items (WasCut tag)

@@ -104,6 +104,7 @@ impl Engine {
 
     /// The running activation ends, and its task tries the same line again by a further one, with
     /// low priority. At the limit it is cut.
+    #[cold]
     pub fn retry(&mut self, checked: &CheckedCode, unit: u32, frame: &Frame)
         requires frame { IsFrame checked.now frame.now.items }
         requires retries { MayRetry checked.now self.old unit frame.now.items }

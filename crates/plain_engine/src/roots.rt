@@ -49,6 +49,7 @@ impl Engine {
     }
 
     // Asks for a root whose earlier roots have tasks.
+    #[cold]
     fn spawn_root(&mut self, checked: &CheckedCode, root: &Root) -> RootState
         requires asked { MayAskRoot checked.now self.old root.now }
         requires tasks { NamesTasks self.old root.now }

@@ -1,4 +1,5 @@
 ghost use Rattle.std.specs.Prelude.{◌≡◌, IfOk, length};
+ghost use Rattle.record_core.specs.EndCounts.{EndCounts};
 ghost use Rattle.record_core.specs.EndFaithful.{EndFaithful};
 ghost use Rattle.record_core.specs.EndSeen.{plan_of};
 ghost use Rattle.record_core.specs.EndSound.{EndComplete, EndSound};
@@ -50,6 +51,7 @@ fn run_to_end(checked: &CheckedCode, columns: &Columns, plan: Plan, engine: Engi
     ensures answers { EndsAs checked.now columns.now (plan_of plan) result }
     ensures faithful { EndFaithful checked.now result }
     ensures complete { EndComplete checked.now columns.now (plan_of plan) result }
+    ensures counts { EndCounts checked.now columns.now result }
 {
     // The program is well formed and valid.
     let _program = checked.program();
@@ -77,6 +79,7 @@ impl PlainRun {
         ensures answers { IfOk result (EndsAs checked.now columns.now (plan_of plan)) }
         ensures faithful { IfOk result (EndFaithful checked.now) }
         ensures complete { IfOk result (EndComplete checked.now columns.now (plan_of plan)) }
+        ensures counts { IfOk result (EndCounts checked.now columns.now) }
     {
         let code = CheckedCode::new(alloc, checked)?;
         let engine = Engine::new(alloc, plan)?;

@@ -67,6 +67,7 @@ impl Engine {
     }
 
     // The started task is cut, as the task was that it is behind.
+    #[cold]
     fn cut(&mut self, checked: &CheckedCode, unit: u32, frame: &Frame, number: u32, tag: CutTag)
         requires frame { IsFrame checked.now frame.now.items }
         requires cut { MayBeCut checked.now self.old unit frame.now.items number tag }

@@ -30,30 +30,31 @@ IsSound-taken_back pool block place bit was sound out =
     (IsKept_taken_back pool.units bit was (sound.kept place was out.there) out.is_set)
 
 -- what is read at the place of the block
-pub record IsFound (units unit unit_again class place bit : ℕ) (now superblock : SuperblockState) : Type 0 where
-  pub place_is : unit / units ≡ place
-  pub bit_is : unit_again % units / block_units class ≡ bit
+pub record IsFound (at within class place bit : ℕ) (now superblock : SuperblockState) : Type 0 where
+  pub place_is : at ≡ place
+  pub bit_is : within / block_units class ≡ bit
   pub now_is : now ≡ superblock
 
-pub found : (units : ℕ) (items : List SuperblockState) (block : BlockState) (place bit : ℕ) (now superblock : SuperblockState) (unit unit_again class : ℕ)
+pub found : (units : ℕ) (items : List SuperblockState) (block : BlockState) (place bit : ℕ) (now superblock : SuperblockState) (unit class at within : ℕ)
     → IsSound (record { units = units; superblocks = items }) → IsOutAt (record { units = units; superblocks = items }) block place bit superblock
-    → unit ≡ block.unit → unit_again ≡ block.unit → class ≡ block.class → now ≡ get_or items (unit / units) now
-    → IsFound units unit unit_again class place bit now superblock
-found units items block place bit now superblock unit unit_again class sound out is_unit is_again is_class read =
+    → unit ≡ block.unit → class ≡ block.class → at ≡ unit / units → within ≡ unit % units → now ≡ get_or items at now
+    → IsFound at within class place bit now superblock
+found units items block place bit now superblock unit class at within sound out is_unit is_class is_at is_within read =
     let pool : PoolState = record { units = units; superblocks = items } in
-    let at : unit / units ≡ place = ap (λ u. u / units) is_unit ∙ place_of pool block place bit superblock sound out in
+    let here : at ≡ place = is_at ∙ ap (λ u. u / units) is_unit ∙ place_of pool block place bit superblock sound out in
     record {
-      place_is = at;
-      bit_is = ap (λ u. u % units / block_units class) is_again ∙ ap (λ k. block.unit % units / block_units k) is_class ∙ bit_of pool block place bit superblock sound out;
-      now_is = read ∙ ap (λ k. get_or items k now) at ∙ get_or_from_slice_get items place superblock now out.there;
+      place_is = here;
+      bit_is = ap (λ w. w / block_units class) is_within ∙ ap (λ u. u % units / block_units class) is_unit
+          ∙ ap (λ k. block.unit % units / block_units k) is_class ∙ bit_of pool block place bit superblock sound out;
+      now_is = read ∙ ap (λ k. get_or items k now) here ∙ get_or_from_slice_get items place superblock now out.there;
     }
 
 -- the same where the pool is seen in other words
 pub out_seen : {seen pool : PoolState} {block : BlockState} (out : IsOut pool block) → seen ≡ pool → IsOutAt seen block out.place out.bit out.superblock
 out_seen {seen} {pool} {block} out same = subst (λ (p : PoolState). IsOutAt p block out.place out.bit out.superblock) (sym same) out.at
 
-pub found_seen : {seen pool : PoolState} {block : BlockState} (out : IsOut pool block) {unit unit_again class : ℕ} {now : SuperblockState} → seen ≡ pool → IsSound seen
-    → unit ≡ block.unit → unit_again ≡ block.unit → class ≡ block.class → now ≡ get_or seen.superblocks (unit / seen.units) now
-    → IsFound seen.units unit unit_again class out.place out.bit now out.superblock
-found_seen {seen} {pool} {block} out {unit} {unit_again} {class} {now} same sound =
-    found seen.units seen.superblocks block out.place out.bit now out.superblock unit unit_again class sound (out_seen out same)
+pub found_seen : {seen pool : PoolState} {block : BlockState} (out : IsOut pool block) {unit class at within : ℕ} {now : SuperblockState} → seen ≡ pool → IsSound seen
+    → unit ≡ block.unit → class ≡ block.class → at ≡ unit / seen.units → within ≡ unit % seen.units → now ≡ get_or seen.superblocks at now
+    → IsFound at within class out.place out.bit now out.superblock
+found_seen {seen} {pool} {block} out {unit} {class} {at} {within} {now} same sound =
+    found seen.units seen.superblocks block out.place out.bit now out.superblock unit class at within sound (out_seen out same)

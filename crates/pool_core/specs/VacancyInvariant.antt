@@ -1,5 +1,5 @@
 -- An invariant of pools, which no public contract shows: the sets have the superblocks that can give a block.
-use Rattle.std.specs.Prelude.{◌≡◌, ◌↔◌, ℕ, ◌≤◌, Bool, List, Some, length, slice_get}
+use Rattle.std.specs.Prelude.{◌≡◌, ◌↔◌, ℕ, ◌^◌, ◌≤◌, Bool, List, Some, length, slice_get}
 use Rattle.claim_core.specs.Claims.{IsSet}
 use Rattle.kt_words.specs.Capacity.{capacity}
 use Rattle.pool_core.specs.Superblocks.{SuperblockState, HasRoom, IsEmpty}
@@ -20,3 +20,8 @@ pub record AreVacancies (units : ℕ) (superblocks : List SuperblockState) (vaca
   pub classes : length vacancies.with_room ≡ 4
   pub with_room : (class : ℕ) → class ≤ 3 → AreThose (HasRoom class (capacity units class)) superblocks (room_set vacancies class)
   pub empty : AreThose IsEmpty superblocks vacancies.empty
+
+-- so many units are this power of two
+pub record IsShiftOf (shift units : ℕ) : Type 0 where
+  pub power : units ≡ 2 ^ shift
+  pub few : shift ≤ 9

@@ -8,6 +8,7 @@ mod superblock;
 mod superblock_set;
 #[cfg(test)]
 mod tests;
+mod unit_places;
 mod vacancies;
 
 pub use block::Block;

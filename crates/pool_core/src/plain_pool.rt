@@ -5,6 +5,7 @@ ghost use Rattle.pool_core.specs.Pool.{unused_pool, IsOut, IsChosenFor, Gives, A
 
 use crate::block::Block;
 use crate::superblock::Superblock;
+use crate::unit_places::{parted, shift_of};
 use crate::vacancies::Vacancies;
 use kt_words::{Geometry, SuperWord};
 use std::alloc::{AllocError, Global};
@@ -14,6 +15,7 @@ use std::marker::Model;
 #[derive(Drop)]
 pub struct PlainPool {
     geometry: Geometry,
+    shift: u32,
     superblocks: Vec<Superblock>,
     vacancies: Vacancies,
 }
@@ -21,14 +23,15 @@ pub struct PlainPool {
 impl Model for PlainPool {
     ghost use Rattle.std.specs.Prelude.{◌≡◌, length};
     ghost use Rattle.pool_core.specs.Pool.{PoolState, IsSound};
-    ghost use Rattle.pool_core.specs.VacancyInvariant.{AreVacancies};
+    ghost use Rattle.pool_core.specs.VacancyInvariant.{AreVacancies, IsShiftOf};
 
     ghost Value = { PoolState };
 
     ghost view = { λ p. record { units = p.geometry.units; superblocks = p.superblocks.items } };
 
     ghost invariant = { λ p. IsSound (record { units = p.geometry.units; superblocks = p.superblocks.items })
-        × AreVacancies p.geometry.units p.superblocks.items p.vacancies };
+        × AreVacancies p.geometry.units p.superblocks.items p.vacancies
+        × IsShiftOf p.shift p.geometry.units };
 }
 
 impl PlainPool {
@@ -44,6 +47,7 @@ impl PlainPool {
         }
         Ok(PlainPool {
             geometry,
+            shift: shift_of(geometry.units),
             superblocks,
             vacancies: Vacancies::new(geometry.superblocks),
         })
@@ -99,8 +103,8 @@ impl PlainPool {
         ensures sound { IsSound self.new }
     {
         let class = block.class();
-        let place = block.unit() / self.geometry.units;
-        let bit = block.unit() % self.geometry.units >> class;
+        let (place, within) = parted(block.unit(), self.geometry.units, self.shift);
+        let bit = within >> class;
         let superblock = &mut self.superblocks[place as usize];
         superblock.take_back(bit);
         let is_empty = superblock.is_empty();

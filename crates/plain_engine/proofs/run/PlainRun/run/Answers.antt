@@ -1,5 +1,6 @@
 use Rattle.std.proofs.Common.{◌≡◌, IfOk, subst}
 use Rattle.task_syntax.specs.declared.program.Program.{Program}
+use Rattle.record_core.specs.EndCounts.{EndCounts}
 use Rattle.record_core.specs.EndFaithful.{EndFaithful}
 use Rattle.record_core.specs.EndSeen.{plan_of}
 use Rattle.record_core.specs.EndSound.{EndComplete, EndSound}
@@ -25,3 +26,8 @@ pub returns-clause-complete : goal.returns-clause-complete
 returns-clause-complete c =
     let same : c.in_ok-code.code ≡ c.args.checked.now = subst (λ made. IfOk made (λ code. code ≡ c.args.checked.now)) c.in_ok-code.was c.new.ensures in
     subst (λ (p : Program). EndComplete p c.args.columns.now (plan_of c.args.plan) c.run_to_end.result) same c.run_to_end.ensures.complete
+
+pub returns-clause-counts : goal.returns-clause-counts
+returns-clause-counts c =
+    let same : c.in_ok-code.code ≡ c.args.checked.now = subst (λ made. IfOk made (λ code. code ≡ c.args.checked.now)) c.in_ok-code.was c.new.ensures in
+    subst (λ (p : Program). EndCounts p c.args.columns.now c.run_to_end.result) same c.run_to_end.ensures.counts

@@ -60,6 +60,7 @@ invariant_of-self c =
           (vacancies_given c.self.inside.geometry.units c.args.superblock c.args.class c.class-was.result c.give-bit.result c.cap-room.result
           c.self.inside.superblocks.items c.self.inside.vacancies c.index_mut-state.result.now c.give-bit.new.self c.has_room-has_room.result
           c.self.invariant.1 c.self.invariant.0 c.requires.class ready c.class-was.ensures c.cap-room.ensures.quotient c.give-bit.ensures.after c.has_room-has_room.ensures),
+      c.self.invariant.2,
     )
 
 pub returns : goal.returns

@@ -11,19 +11,19 @@ use Rattle.pool_core.proofs.plain_pool.PlainPool.release.Goals as goal
 pub take_back-requires-clause-counted : goal.take_back-requires-clause-counted
 take_back-requires-clause-counted c =
     let out = out_seen c.requires c.self.view_is in
-    let at = found_seen c.requires c.self.view_is c.self.invariant.0 c.unit.ensures c.unit-2.ensures c.class-class.ensures c.index_mut-superblock.ensures.value in
+    let at = found_seen c.requires c.self.view_is c.self.invariant.0 c.unit.ensures c.class-class.ensures c.parted-place.ensures.superblock c.parted-place.ensures.within c.index_mut-superblock.ensures.value in
     rw at.now_is (c.self.invariant.0.kept c.requires.place c.requires.superblock out.there).counted
 
 pub take_back-requires-clause-out : goal.take_back-requires-clause-out
 take_back-requires-clause-out c =
     let out = out_seen c.requires c.self.view_is in
-    let at = found_seen c.requires c.self.view_is c.self.invariant.0 c.unit.ensures c.unit-2.ensures c.class-class.ensures c.index_mut-superblock.ensures.value in
+    let at = found_seen c.requires c.self.view_is c.self.invariant.0 c.unit.ensures c.class-class.ensures c.parted-place.ensures.superblock c.parted-place.ensures.within c.index_mut-superblock.ensures.value in
     rw (at.now_is, at.bit_is) out.is_set
 
 pub note-requires-clause-superblock : goal.note-requires-clause-superblock
 note-requires-clause-superblock c =
     let out = out_seen c.requires c.self.view_is in
-    let at = found_seen c.requires c.self.view_is c.self.invariant.0 c.unit.ensures c.unit-2.ensures c.class-class.ensures c.index_mut-superblock.ensures.value in
+    let at = found_seen c.requires c.self.view_is c.self.invariant.0 c.unit.ensures c.class-class.ensures c.parted-place.ensures.superblock c.parted-place.ensures.within c.index_mut-superblock.ensures.value in
     omega (arith, at.place_is, slice_get_within c.self.inside.superblocks.items c.requires.place c.requires.superblock out.there, c.self.invariant.0.few)
 
 pub note-requires-clause-was : goal.note-requires-clause-was
@@ -41,7 +41,7 @@ note-requires-clause-class c =
 pub invariant_of-self : goal.invariant_of-self
 invariant_of-self c =
     let out = out_seen c.requires c.self.view_is in
-    let at = found_seen c.requires c.self.view_is c.self.invariant.0 c.unit.ensures c.unit-2.ensures c.class-class.ensures c.index_mut-superblock.ensures.value in
+    let at = found_seen c.requires c.self.view_is c.self.invariant.0 c.unit.ensures c.class-class.ensures c.parted-place.ensures.superblock c.parted-place.ensures.within c.index_mut-superblock.ensures.value in
     let after : c.take_back.new.self ≡ taken_back c.requires.superblock c.requires.bit = rw (c.take_back.ensures, at.now_is, at.bit_is) refl in (
       rw (at.place_is, after)
           (IsSound-taken_back (record { units = c.self.inside.geometry.units; superblocks = c.self.inside.superblocks.items }) c.args.block c.requires.place c.requires.bit c.requires.superblock c.self.invariant.0 out),
@@ -49,12 +49,13 @@ invariant_of-self c =
           (vacancies_taken_back c.self.inside.geometry.units c.requires.place c.class-class.result c.requires.bit c.self.inside.superblocks.items c.self.inside.vacancies
           c.requires.superblock c.take_back.new.self c.is_empty-is_empty.result c.self.invariant.1 c.self.invariant.0 out.there out.is_set
           (c.class-class.ensures ∙ ap (λ (b : BlockState). b.class) out.block_is) after c.is_empty-is_empty.ensures),
+      c.self.invariant.2,
     )
 
 pub returns-clause-back : goal.returns-clause-back
 returns-clause-back c =
     let out = out_seen c.requires c.self.view_is in
-    let at = found_seen c.requires c.self.view_is c.self.invariant.0 c.unit.ensures c.unit-2.ensures c.class-class.ensures c.index_mut-superblock.ensures.value in
+    let at = found_seen c.requires c.self.view_is c.self.invariant.0 c.unit.ensures c.class-class.ensures c.parted-place.ensures.superblock c.parted-place.ensures.within c.index_mut-superblock.ensures.value in
     let pool : PoolState = record { units = c.self.inside.geometry.units; superblocks = c.self.inside.superblocks.items } in
     rw (← c.self.view_is) (record {
       place = c.requires.place;
@@ -69,13 +70,13 @@ returns-clause-back c =
 pub returns-clause-removes : goal.returns-clause-removes
 returns-clause-removes c =
     let out = out_seen c.requires c.self.view_is in
-    let at = found_seen c.requires c.self.view_is c.self.invariant.0 c.unit.ensures c.unit-2.ensures c.class-class.ensures c.index_mut-superblock.ensures.value in
+    let at = found_seen c.requires c.self.view_is c.self.invariant.0 c.unit.ensures c.class-class.ensures c.parted-place.ensures.superblock c.parted-place.ensures.within c.index_mut-superblock.ensures.value in
     rw (← c.self.view_is, at.place_is, c.take_back.ensures, at.now_is, at.bit_is)
     (Removes-taken_back (record { units = c.self.inside.geometry.units; superblocks = c.self.inside.superblocks.items }) c.args.block c.requires.place c.requires.bit c.requires.superblock c.self.invariant.0 out)
 
 pub returns-clause-sound : goal.returns-clause-sound
 returns-clause-sound c =
     let out = out_seen c.requires c.self.view_is in
-    let at = found_seen c.requires c.self.view_is c.self.invariant.0 c.unit.ensures c.unit-2.ensures c.class-class.ensures c.index_mut-superblock.ensures.value in
+    let at = found_seen c.requires c.self.view_is c.self.invariant.0 c.unit.ensures c.class-class.ensures c.parted-place.ensures.superblock c.parted-place.ensures.within c.index_mut-superblock.ensures.value in
     rw (at.place_is, c.take_back.ensures, at.now_is, at.bit_is)
     (IsSound-taken_back (record { units = c.self.inside.geometry.units; superblocks = c.self.inside.superblocks.items }) c.args.block c.requires.place c.requires.bit c.requires.superblock c.self.invariant.0 out)
