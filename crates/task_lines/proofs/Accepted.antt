@@ -1,17 +1,7 @@
 -- What the rows of a text spell is read from it.
-use Rattle.task_lines.proofs.Vocabulary.{◌≡◌, ℕ, Bool, false, cond, List, [], ◌∷◌, length, Result, Ok, Err, refl, sym, ◌∙◌, ap, subst, codes, same_bytes, NoHeader, NoEnd, Fault, fault_at, Row, lines_of, without_mark, rows_of, Scan, start_of, Parser, ◌>>◌, pure, need, take_word, check_text, whole, Answers, pure-answers, need-answers, taken-answers, seen-is, whole-answers}
+use Rattle.task_lines.proofs.Vocabulary.{◌≡◌, ℕ, Bool, false, cond, List, [], ◌∷◌, length, Result, Ok, Err, refl, sym, ◌∙◌, ap, subst, codes, same_bytes, NoHeader, NoEnd, Fault, fault_at, Row, lines_of, without_mark, rows_of, Scan, start_of, Parser, ◌>>◌, pure, need, take_word, check_text, whole, Answers, pure-answers, need-answers, taken-answers, seen-is, whole-answers, What, Item, Place, Outside, Head, Ended, Scope, first_scope, after, header_line, read_line, is_open_state, is_cut_short, line_of, items_from, rows_behind_header, items_of, Spells, MayBegin, MayStand, RowsSpellFrom, RowsSpell}
 use Rattle.task_text.specs.Fault.{◌>>=◌}
-use Rattle.task_lines.specs.declared.item.What.{What}
 use Rattle.task_lines.specs.declared.item.What.TheVariants as what
-use Rattle.task_lines.specs.declared.item.Item.{Item}
-use Rattle.task_lines.specs.declared.scope.Place.{Place}
-use Rattle.task_lines.specs.declared.scope.Place.TheVariants.{Outside, Head, Ended}
-use Rattle.task_lines.specs.declared.scope.Scope.{Scope}
-use Rattle.task_lines.specs.Scope.{first_scope, after}
-use Rattle.task_lines.specs.Line.{header_line}
-use Rattle.task_lines.specs.Table.{read_line}
-use Rattle.task_lines.specs.Reading.{is_open_state, is_cut_short, line_of, items_from, rows_behind_header, items_of}
-use Rattle.task_lines.specs.Grammar.{Spells, MayBegin, MayStand, RowsSpellFrom, RowsSpell}
 use Rattle.task_lines.proofs.AcceptedText.{text-checked, spelled-text}
 use Rattle.task_lines.proofs.AcceptedLines.{line-answers}
 

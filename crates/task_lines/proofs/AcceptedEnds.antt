@@ -1,8 +1,6 @@
 -- What may stand at the end of a line is read from the words that spell it.
-use Rattle.task_lines.proofs.Vocabulary.{◌≡◌, ℕ, Bool, true, false, cond, Option, Some, None, List, [], ◌∷◌, ◌++◌, refl, sym, ◌∙◌, ap, subst, inl, inr, codes, same_bytes, Relation, Less, AtMost, Equal, Differs, Priority, High, Regular, Low, Word, is_missing, is_future, Scan, first_of, seen, ◌<$>◌, pure, fixed, read_future, eat, Answers, then-answers, pure-answers, seen-is, seen-first, moved-is, fixed-answers, future-answers, eat-answers, eat-nothing}
+use Rattle.task_lines.proofs.Vocabulary.{◌≡◌, ℕ, Bool, true, false, cond, Option, Some, None, List, [], ◌∷◌, ◌++◌, refl, sym, ◌∙◌, ap, subst, inl, inr, codes, same_bytes, Relation, Less, Priority, High, Regular, Low, Word, is_missing, is_future, Scan, first_of, seen, ◌<$>◌, pure, fixed, read_future, eat, Answers, then-answers, pure-answers, seen-is, seen-first, moved-is, fixed-answers, future-answers, eat-answers, eat-nothing, relation_of, priority_of, read_behind, priority_by, read_priority, last_priority_by, read_last_priority, read_retry, relation_by, read_relation, is_argument, is_root_argument}
 use Rattle.task_text.specs.Scan.{◌>>=◌}
-use Rattle.task_lines.specs.Keyword.{relation_of, priority_of}
-use Rattle.task_lines.specs.Line.{read_behind, priority_by, read_priority, last_priority_by, read_last_priority, read_retry, relation_by, read_relation, is_argument, is_root_argument}
 use Rattle.task_lines.specs.Grammar.{relation_word, priority_word, SpellsBehind, SpellsPriority, retry_words}
 
 -- ---- what may stand at the end of a line
@@ -22,8 +20,7 @@ behind-answers words (Some name) spells s rest stop e =
 
 priority-of : (priority : Priority) → priority_of (priority_word priority) ≡ Some priority
 priority-of High = refl
-priority-of Regular = refl
-priority-of Low = refl
+priority-of _ = refl
 
 pub priority-answers : (words : List Word) (priority : Priority) → SpellsPriority words priority → (s : Scan) (rest : List Word) → priority_of (first_of rest) ≡ None
     → s.left ≡ words ++ rest → Answers read_priority s priority rest
@@ -42,8 +39,7 @@ priority-answers words priority (inr none) s rest stop e =
 
 priority-there : (priority : Priority) → is_missing (priority_word priority) ≡ false
 priority-there High = refl
-priority-there Regular = refl
-priority-there Low = refl
+priority-there _ = refl
 
 pub last-priority-answers : (words : List Word) (priority : Priority) → SpellsPriority words priority → (s : Scan) → s.left ≡ words → Answers read_last_priority s priority []
 unfolding read_last_priority
@@ -78,9 +74,7 @@ retry-answers false s e = record {
 
 relation-of : (relation : Relation) → relation_of (relation_word relation) ≡ Some relation
 relation-of Less = refl
-relation-of AtMost = refl
-relation-of Equal = refl
-relation-of Differs = refl
+relation-of _ = refl
 
 pub relation-answers : (relation : Relation) (s : Scan) (rest : List Word) → s.left ≡ relation_word relation ∷ rest → Answers read_relation s relation rest
 unfolding read_relation
@@ -131,9 +125,3 @@ refuses-future = record { none = refl; high = refl; regular = refl; low = refl; 
 pub no-priority : (retry : Bool) → priority_of (first_of (retry_words retry)) ≡ None
 no-priority true = refl
 no-priority false = refl
-
-pub behind-then-priority : (ps : List Word) (priority : Priority) → SpellsPriority ps priority → same_bytes (codes "behind") (first_of ps) ≡ false
-behind-then-priority ps High (inl one) = ap (λ ws. same_bytes (codes "behind") (first_of ws)) one
-behind-then-priority ps Regular (inl one) = ap (λ ws. same_bytes (codes "behind") (first_of ws)) one
-behind-then-priority ps Low (inl one) = ap (λ ws. same_bytes (codes "behind") (first_of ws)) one
-behind-then-priority ps priority (inr none) = ap (λ ws. same_bytes (codes "behind") (first_of ws)) none.0

@@ -1,19 +1,11 @@
 -- The lines are read from the words that spell them, where they may stand.
-use Rattle.task_lines.proofs.Vocabulary.{◌≡◌, ◌≢◌, ℕ, ◌≤◌, Bool, true, false, cond, Option, Some, None, List, [], ◌∷◌, ◌++◌, length, refl, sym, ◌∙◌, ap, subst, append-nil, codes, same_bytes, AllDiffer, Variable, TwiceNamed, BackLabel, Word, is_missing, is_present, is_future, Scan, first_of, Parser, ◌>>◌, pure, take_word, fixed, eat, one_or_more, Answers, then-answers, pure-answers, room-answers, taken-answers, seen-is, seen-first, fixed-answers, name-answers, new-name-answers, future-answers, eat-answers, eat-nothing, each-answers, one-or-more-answers}
+use Rattle.task_lines.proofs.Vocabulary.{◌≡◌, ◌≢◌, ℕ, ◌≤◌, Bool, true, false, cond, Option, Some, None, List, [], ◌∷◌, ◌++◌, length, refl, sym, ◌∙◌, ap, subst, append-nil, codes, same_bytes, AllDiffer, Variable, TwiceNamed, BackLabel, Word, is_missing, is_present, is_future, Scan, first_of, Parser, ◌>>◌, pure, take_word, fixed, eat, one_or_more, Answers, then-answers, pure-answers, room-answers, taken-answers, seen-is, seen-first, fixed-answers, name-answers, new-name-answers, future-answers, eat-answers, eat-nothing, each-answers, one-or-more-answers, Keyword, What, Place, Outside, Head, Code, Jumped, Ended, Scope, keyword_word, priority_of, opening, read_variable, read_other_future, read_last_priority, read_retry, read_holds, read_settled, is_argument, read_argument, is_root_argument, read_root_argument, read_member, Spells, MayBegin, IsInState, MayStand}
 use Rattle.task_syntax.specs.declared.instr.MathOp.TheVariants as op
-use Rattle.task_lines.specs.declared.keyword.Keyword.{Keyword}
 use Rattle.task_lines.specs.declared.keyword.Keyword.TheVariants as k
 use Rattle.task_lines.specs.declared.step.Step.TheVariants as step
-use Rattle.task_lines.specs.declared.item.What.{What}
 use Rattle.task_lines.specs.declared.item.What.TheVariants.{Kind, Var, State, Step as StepLine, End, Root}
-use Rattle.task_lines.specs.declared.scope.Place.{Place}
-use Rattle.task_lines.specs.declared.scope.Place.TheVariants.{Outside, Head, Code, Jumped, Ended}
-use Rattle.task_lines.specs.declared.scope.Scope.{Scope}
-use Rattle.task_lines.specs.Keyword.{keyword_word, priority_of, opening}
-use Rattle.task_lines.specs.Line.{read_variable, read_other_future, read_last_priority, read_retry, read_holds, read_settled, is_argument, read_argument, is_root_argument, read_root_argument, read_member}
 use Rattle.task_lines.specs.Spelling.{SpellsFuture, SpellsFutures, SpellsVariable, SpellsPassed, SpellsRootTerm, retry_words}
 use Rattle.task_lines.specs.Table.{Part, GotoWord, AName, ANewName, ATarget, ATerm, ARelation, AFuture, KindVariables, MoreVariables, Arguments, RootArguments, Members, HeldFutures, SettledFutures, Predecessor, APriority, LastPriority, ARetry, Of, Values, names_of, read_part, read_parts, Choice, Choices, part_words, words_of, Keeps, KeepAll, parts_of, line_of_parts, counted, begun, keyword_line, line_by, read_line}
-use Rattle.task_lines.specs.Grammar.{Spells, MayBegin, IsInState, MayStand}
 use Rattle.task_lines.proofs.SpelledParts.{AreNew}
 use Rattle.task_lines.proofs.SpelledLines.{IsWithin}
 use Rattle.task_lines.proofs.AcceptedParts.{term-answers, reads-variable, reads-passed, reads-root-term, variable-answers, other-future-answers, argument-answers, root-argument-answers, member-answers, future-passes, future-present, not-among}
@@ -147,14 +139,8 @@ stop-all k.Root vs c =
     )
 stop-all k.Label vs c = (tt, tt)
 stop-all k.Set vs c = (tt, (tt, tt))
-stop-all k.Add vs c = (tt, (tt, (tt, tt)))
-stop-all k.Sub vs c = (tt, (tt, (tt, tt)))
-stop-all k.Mul vs c = (tt, (tt, (tt, tt)))
-stop-all k.Div vs c = (tt, (tt, (tt, tt)))
-stop-all k.Rem vs c = (tt, (tt, (tt, tt)))
 stop-all k.If vs c = (tt, (tt, (tt, (tt, (tt, tt)))))
 stop-all k.Goto vs c = (tt, tt)
-stop-all k.Cell vs c = (tt, (tt, (tt, tt)))
 stop-all k.Rows vs c = (tt, (tt, tt))
 stop-all k.Spawn vs c =
     let last = retry_words vs.1.1.1.1.1.0 ++ [] in
@@ -192,6 +178,7 @@ stop-all k.Again vs c = (
   ),
 )
 stop-all k.Done vs c = (tt, tt)
+stop-all _ vs c = (tt, (tt, (tt, tt)))
 
 -- the line that an entry makes is read from its words
 entry-answers : (scope : Scope) (keyword : Keyword) (vs : Values (parts_of keyword)) (c : Choices (parts_of keyword) vs) → opening scope.place (keyword_word keyword) ≡ Some keyword

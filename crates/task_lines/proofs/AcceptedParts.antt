@@ -1,16 +1,12 @@
 -- The parts of lines are read from the words that spell them.
-use Rattle.task_lines.proofs.Vocabulary.{◌≡◌, ℕ, zero, suc, ◌<◌, ◌≤◌, Bool, true, false, not, ◌&&◌, ◌||◌, cond, nat_eq, nat_le, Some, List, [], ◌∷◌, ◌++◌, length, drop, slice_get, refl, sym, ◌∙◌, ap, subst, inl, inr, arith, nat_lt, ◌^◌, list_any, list_all, digits_value, leb-true, eqb-true, slice_get_within, length-append, same_bytes, is_between, is_letter, is_digit, is_name_byte, is_reserved, begins_with_letter, is_name, IsName, AllDiffer, Sort, Variable, both, either, or_right, get-front, BadName, BadNumber, TwiceNamed, Word, is_present, begins_with_digit, is_number, is_future, is_operand, is_no_bad_number, is_among, Scan, ◌>>◌, ◌<$>◌, take_word, need, room, same-word, Answers, need-answers, room-answers, take-answers, seen-is, ItemAnswers}
+use Rattle.task_lines.proofs.Vocabulary.{◌≡◌, ℕ, zero, suc, ◌<◌, ◌≤◌, Bool, true, false, not, ◌&&◌, ◌||◌, cond, nat_eq, nat_le, Some, List, [], ◌∷◌, ◌++◌, length, drop, slice_get, refl, sym, ◌∙◌, ap, subst, inl, inr, arith, nat_lt, ◌^◌, list_any, list_all, digits_value, leb-true, eqb-true, slice_get_within, length-append, same_bytes, is_between, is_letter, is_digit, is_name_byte, is_reserved, begins_with_letter, is_name, IsName, AllDiffer, Sort, Variable, both, either, or_right, get-front, BadName, BadNumber, TwiceNamed, Word, is_present, begins_with_digit, is_number, is_future, is_operand, is_no_bad_number, is_among, Scan, ◌>>◌, ◌<$>◌, take_word, need, room, same-word, Answers, need-answers, room-answers, take-answers, seen-is, ItemAnswers, Term, Passed, RootTerm, same_sort, is_variable, has_variable, term_of, read_term, is_variable_word, variable_of, is_new, read_variable, read_other_future, is_root_argument, root_term_of, read_root_argument, is_argument, passed_of, read_argument, read_member}
 use Rattle.std.proofs.lemmas.List.{append_assoc}
 use Rattle.task_syntax.specs.declared.program.Sort.TheVariants as sort
-use Rattle.task_lines.specs.declared.step.Term.{Term}
 use Rattle.task_lines.specs.declared.step.Term.TheVariants as term
-use Rattle.task_lines.specs.declared.step.Passed.{Passed}
 use Rattle.task_lines.specs.declared.step.Passed.TheVariants as passed
-use Rattle.task_lines.specs.declared.item.RootTerm.{RootTerm}
 use Rattle.task_lines.specs.declared.item.RootTerm.TheVariants as root_term
-use Rattle.task_lines.specs.Scope.{same_sort, is_variable, has_variable}
-use Rattle.task_lines.specs.Line.{term_of, read_term, is_variable_word, variable_of, is_new, read_variable, read_other_future, is_root_argument, root_term_of, read_root_argument, is_argument, passed_of, read_argument, read_member}
 use Rattle.task_lines.specs.Grammar.{SpellsTerm, SpellsPassed, SpellsRootTerm, SpellsFuture, SpellsVariable, IsNew}
+use Rattle.task_lines.proofs.Parts.{begins_number}
 use Rattle.task_lines.proofs.SpelledParts.{AreNew}
 
 -- ---- first bytes
@@ -50,10 +46,6 @@ number-parts : (word : Word) → is_number word ≡ true → (is_between 1 20 (l
 number-parts word h = both (is_between 1 20 (length word)) (list_all is_digit word)
     (both (is_between 1 20 (length word) && list_all is_digit word) (nat_lt (digits_value 10 word) (2 ^ 64)) h).0
 
-number-digit : (word : Word) → is_number word ≡ true → begins_with_digit word ≡ true
-number-digit [] h = (number-parts [] h).0
-number-digit (byte ∷ bytes) h = (both (is_digit byte) (list_all is_digit bytes) (number-parts (byte ∷ bytes) h).1).0
-
 digit-no-future : (word : Word) → begins_with_digit word ≡ true → is_future word ≡ false
 digit-no-future [] h = refl
 digit-no-future (byte ∷ bytes) h = fails (nat_eq byte 64 && is_name bytes) (λ f. omega (arith, digit-to byte h, eqb-true byte 64 (both (nat_eq byte 64) (is_name bytes) f).0))
@@ -67,7 +59,7 @@ pub record ReadsTerm (word : Word) (t : Term) : Type 0 where
   pub value : term_of word ≡ t
 
 pub reads-term : (word : Word) (t : Term) → SpellsTerm word t → ReadsTerm word t
-reads-term word (term.Literal n) s = let d = number-digit word s.0 in record {
+reads-term word (term.Literal n) s = let d = begins_number word s.0 in record {
   number = ap (λ b. cond b (is_number word) true) d ∙ s.0;
   operand = ap (λ b. b || is_name word) d;
   no_future = digit-no-future word d;
@@ -92,11 +84,8 @@ term-answers word t spells s rest e =
     (need-answers is_operand BadName (term_of <$> take_word) s t rest (ap is_operand is ∙ h.operand)
     (subst (λ a. Answers (term_of <$> take_word) s a rest) h.value (take-answers term_of s word rest e)))
 
-future-is : (word : Word) (name : List ℕ) → SpellsFuture word name → is_future word ≡ true
-future-is word name s = ap is_future s.0 ∙ s.1
-
 pub future-passes : (word : Word) (name : List ℕ) → SpellsFuture word name → is_future word ≡ true
-future-passes = future-is
+future-passes word name s = ap is_future s.0 ∙ s.1
 
 pub future-present : (word : Word) (name : List ℕ) → SpellsFuture word name → is_present word ≡ true
 future-present word name s = ap is_present s.0
@@ -115,20 +104,20 @@ reads-passed word (passed.Number t) s = let h = reads-term word t s in record {
 }
 reads-passed word (passed.Future name) s = record {
   number = ap is_no_bad_number s.0;
-  passes = or_right (is_operand word) (is_future word) (future-is word name s);
-  value = ap (λ b. cond b (passed.Future (drop 1 word)) (passed.Number (term_of word))) (future-is word name s) ∙ ap (λ w. passed.Future (drop 1 w)) s.0;
+  passes = or_right (is_operand word) (is_future word) (future-passes word name s);
+  value = ap (λ b. cond b (passed.Future (drop 1 word)) (passed.Number (term_of word))) (future-passes word name s) ∙ ap (λ w. passed.Future (drop 1 w)) s.0;
 }
 
 pub reads-root-term : (word : Word) (a : RootTerm) → SpellsRootTerm word a → ReadsAs is_root_argument root_term_of word a
-reads-root-term word (root_term.Number n) s = let d = number-digit word s.0 in record {
+reads-root-term word (root_term.Number n) s = let d = begins_number word s.0 in record {
   number = ap (λ b. cond b (is_number word) true) d ∙ s.0;
   passes = ap (λ b. b || is_future word) d;
   value = ap (λ b. cond b (root_term.Root (drop 1 word)) (root_term.Number (digits_value 10 word))) (digit-no-future word d) ∙ ap root_term.Number s.1;
 }
 reads-root-term word (root_term.Root name) s = record {
   number = ap is_no_bad_number s.0;
-  passes = or_right (begins_with_digit word) (is_future word) (future-is word name s);
-  value = ap (λ b. cond b (root_term.Root (drop 1 word)) (root_term.Number (digits_value 10 word))) (future-is word name s) ∙ ap (λ w. root_term.Root (drop 1 w)) s.0;
+  passes = or_right (begins_with_digit word) (is_future word) (future-passes word name s);
+  value = ap (λ b. cond b (root_term.Root (drop 1 word)) (root_term.Number (digits_value 10 word))) (future-passes word name s) ∙ ap (λ w. root_term.Root (drop 1 w)) s.0;
 }
 
 pub record ReadsVariable (word : Word) (v : Variable) : Type 0 where
@@ -150,8 +139,8 @@ reads-by-sort word name sort.Number h =
       present = letter-present word (name-letter word is);
     }
 reads-by-sort word name sort.Future h = record {
-  passes = or_right (is_name word) (is_future word) (future-is word name h);
-  value = ap (λ b. cond b (record { name = drop 1 word; sort = sort.Future }) (record { name = word; sort = sort.Number })) (future-is word name h)
+  passes = or_right (is_name word) (is_future word) (future-passes word name h);
+  value = ap (λ b. cond b (record { name = drop 1 word; sort = sort.Future }) (record { name = word; sort = sort.Number })) (future-passes word name h)
       ∙ ap (λ w. record { name = drop 1 w; sort = sort.Future }) h.0;
   present = future-present word name h;
 }
@@ -179,7 +168,7 @@ any-where : {X : Type 0} (test : X → Bool) (xs : List X) → list_any test xs 
 any-where test [] h = cc
 any-where test (x ∷ xs) h = any-by test x xs (test x) refl (any-where test xs) h
 
-same-sort-is : (a b : Sort) → same_sort a b ≡ true → a ≡ b
+pub same-sort-is : (a b : Sort) → same_sort a b ≡ true → a ≡ b
 same-sort-is sort.Number sort.Number h = refl
 same-sort-is sort.Future sort.Future h = refl
 same-sort-is sort.Number sort.Future h = cc
@@ -235,14 +224,14 @@ unfolding read_other_future
 other-future-answers found name more s word rest holds spells e =
     let is = seen-is s word rest e in
     let new : not (is_among found (drop 1 word)) ≡ true = ap (λ w. not (is_among found (drop 1 w))) spells.0 ∙ ap not (no-name found name more holds) in
-    need-answers is_future BadName (need (λ word. not (is_among found (drop 1 word))) TwiceNamed >> (drop 1 <$> take_word)) s name rest (ap is_future is ∙ future-is word name spells)
+    need-answers is_future BadName (need (λ word. not (is_among found (drop 1 word))) TwiceNamed >> (drop 1 <$> take_word)) s name rest (ap is_future is ∙ future-passes word name spells)
     (need-answers (λ word. not (is_among found (drop 1 word))) TwiceNamed (drop 1 <$> take_word) s name rest (ap (λ w. not (is_among found (drop 1 w))) is ∙ new)
     (take-future s word name rest spells e))
 
 pub member-answers : ItemAnswers SpellsFuture (λ all. length all ≤ 8) read_member
 unfolding read_member
 member-answers found name more s word rest holds spells e =
-    need-answers is_future BadName (room (length found) 8 >> (drop 1 <$> take_word)) s name rest (ap is_future (seen-is s word rest e) ∙ future-is word name spells)
+    need-answers is_future BadName (room (length found) 8 >> (drop 1 <$> take_word)) s name rest (ap is_future (seen-is s word rest e) ∙ future-passes word name spells)
     (room-answers (length found) 8 (drop 1 <$> take_word) s name rest (front-shorter found name more 8 holds) (take-future s word name rest spells e))
 
 pub argument-answers : ItemAnswers SpellsPassed (λ all. length all ≤ 16) read_argument

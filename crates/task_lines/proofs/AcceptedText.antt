@@ -1,15 +1,10 @@
 -- The words that spell lines have only bytes that may stand outside comments.
-use Rattle.task_lines.proofs.Vocabulary.{◌≡◌, ℕ, ◌+◌, ◌≤◌, Bool, true, false, not, ◌&&◌, ◌||◌, cond, nat_eq, nat_le, Option, Some, None, List, [], ◌∷◌, ◌++◌, length, Result, Ok, Err, refl, sym, ◌∙◌, ap, subst, inl, inr, arith, codes, nat_lt, ◌^◌, list_all, digits_value, leb-true, le-leb, eqb-true, is_between, is_letter, is_digit, is_name_byte, is_reserved, begins_with_letter, IsName, Sort, Variable, MathOp, Relation, Less, AtMost, Equal, Differs, Priority, High, Regular, Low, both, either, NotText, Fault, fault_at, Word, is_text, check_words}
+use Rattle.task_lines.proofs.Vocabulary.{◌≡◌, ℕ, ◌+◌, ◌≤◌, Bool, true, false, not, ◌&&◌, ◌||◌, cond, nat_eq, nat_le, Option, Some, None, List, [], ◌∷◌, ◌++◌, length, Result, Ok, Err, refl, sym, ◌∙◌, ap, subst, inl, inr, arith, codes, nat_lt, ◌^◌, list_all, digits_value, leb-true, le-leb, eqb-true, is_between, is_letter, is_digit, is_name_byte, is_reserved, begins_with_letter, IsName, Sort, Variable, MathOp, Relation, Less, Priority, High, both, either, NotText, Fault, fault_at, Word, is_text, check_words, Term, Passed, Set, Math, RootTerm, What}
 use Rattle.task_syntax.specs.declared.program.Sort.TheVariants as sort
 use Rattle.task_syntax.specs.declared.instr.MathOp.TheVariants as op
-use Rattle.task_lines.specs.declared.step.Term.{Term}
 use Rattle.task_lines.specs.declared.step.Term.TheVariants as term
-use Rattle.task_lines.specs.declared.step.Passed.{Passed}
 use Rattle.task_lines.specs.declared.step.Passed.TheVariants as passed
-use Rattle.task_lines.specs.declared.step.Step.TheVariants.{Set, Math, If, Goto, Label, Cell, Rows, Spawn, All, Copy, Drop, Get, Again, Done}
-use Rattle.task_lines.specs.declared.item.RootTerm.{RootTerm}
 use Rattle.task_lines.specs.declared.item.RootTerm.TheVariants as root_term
-use Rattle.task_lines.specs.declared.item.What.{What}
 use Rattle.task_lines.specs.declared.item.What.TheVariants as what
 use Rattle.task_lines.specs.Table.{Part, GotoWord, AName, ANewName, ATarget, ATerm, ARelation, AFuture, KindVariables, MoreVariables, Arguments, RootArguments, Members, HeldFutures, SettledFutures, Predecessor, APriority, LastPriority, ARetry, Of, Values, Choice, Choices, part_words, words_of, entry}
 use Rattle.task_lines.specs.Grammar.{SpellsName, SpellsFuture, SpellsNumber, SpellsTerm, SpellsPassed, SpellsRootTerm, SpellsVariable, operation_word, relation_word, priority_word, EachSpells, SpellsFutures, SpellsBehind, SpellsPriority, retry_words, Spells}
@@ -96,16 +91,11 @@ variable-text word v h = by-sort-text word v.name v.sort h
 
 operation-text : (operation : MathOp) → is_text (operation_word operation) ≡ true
 operation-text op.Add = refl
-operation-text op.Sub = refl
-operation-text op.Mul = refl
-operation-text op.Div = refl
-operation-text op.Rem = refl
+operation-text _ = refl
 
 relation-text : (relation : Relation) → is_text (relation_word relation) ≡ true
 relation-text Less = refl
-relation-text AtMost = refl
-relation-text Equal = refl
-relation-text Differs = refl
+relation-text _ = refl
 
 -- ---- several words
 
@@ -124,8 +114,7 @@ behind-text words (Some name) h = subst AreText (sym h.0) (refl, (name-text name
 
 one-priority-text : (priority : Priority) → AreText (priority_word priority ∷ [])
 one-priority-text High = (refl, tt)
-one-priority-text Regular = (refl, tt)
-one-priority-text Low = (refl, tt)
+one-priority-text _ = (refl, tt)
 
 priority-text : (words : List Word) (priority : Priority) → SpellsPriority words priority → AreText words
 priority-text words priority (inl one) = subst AreText (sym one) (one-priority-text priority)
@@ -168,23 +157,9 @@ parts-text (part ∷ ps) vs c = append-text (part_words part vs.0 c.0) (words_of
 first-text : (w : What) → is_text (entry w).word ≡ true
 first-text (what.Step (Math operation to left right)) = operation-text operation
 first-text (what.Kind name arguments) = refl
-first-text (what.Var variables) = refl
-first-text (what.State name holds settled) = refl
-first-text what.End = refl
-first-text (what.Root name kind arguments behind priority) = refl
 first-text (what.Step (Set to value)) = refl
-first-text (what.Step (If relation left right target)) = refl
-first-text (what.Step (Goto target)) = refl
-first-text (what.Step (Label name)) = refl
-first-text (what.Step (Cell to column row)) = refl
-first-text (what.Step (Rows to column)) = refl
-first-text (what.Step (Spawn to kind arguments behind priority retry)) = refl
-first-text (what.Step (All to members priority retry)) = refl
-first-text (what.Step (Copy to source)) = refl
-first-text (what.Step (Drop future)) = refl
-first-text (what.Step (Get to future)) = refl
-first-text (what.Step (Again target behind priority)) = refl
-first-text (what.Step (Done value)) = refl
+first-text (what.Step _) = refl
+first-text _ = refl
 
 pub spelled-text : (words : List Word) (w : What) → Spells words w → AreText words
 spelled-text words w p = subst AreText (sym p.1) (first-text w, parts-text (entry w).parts (entry w).values p.0)

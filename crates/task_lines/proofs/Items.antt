@@ -1,16 +1,9 @@
 -- One turn over the rows of a text: another item, a fault, and the end.
-use Rattle.task_lines.proofs.Vocabulary.{◌≡◌, ◌≢◌, ℕ, ◌+◌, ◌≤◌, List, [], ◌∷◌, ◌++◌, length, drop, Some, None, Result, Ok, Err, refl, sym, ap, append-nil, arith, Fault, NoEnd, TextError, fault_at, Gives, Row, Scan, start_of, first_start}
+use Rattle.task_lines.proofs.Vocabulary.{◌≡◌, ◌≢◌, ℕ, ◌+◌, ◌≤◌, List, [], ◌∷◌, ◌++◌, length, drop, Some, None, Result, Ok, Err, refl, sym, ap, append-nil, arith, Fault, NoEnd, TextError, fault_at, Gives, Row, Scan, start_of, first_start, What, Item, Place, Outside, Head, Code, Jumped, Ended, Scope, after, line_of, items_from}
 use Rattle.std.proofs.Common.{append_assoc}
 use Rattle.task_text.specs.declared.fault.TextError.TheVariants as error
 use Rattle.task_text.specs.Fault.{◌>>=◌}
-use Rattle.task_lines.specs.declared.item.What.{What}
 use Rattle.task_lines.specs.declared.item.What.TheVariants as what
-use Rattle.task_lines.specs.declared.item.Item.{Item}
-use Rattle.task_lines.specs.declared.scope.Place.{Place}
-use Rattle.task_lines.specs.declared.scope.Place.TheVariants.{Outside, Head, Code, Jumped, Ended}
-use Rattle.task_lines.specs.declared.scope.Scope.{Scope}
-use Rattle.task_lines.specs.Scope.{after}
-use Rattle.task_lines.specs.Reading.{line_of, items_from}
 
 -- the items that are read, behind those found before
 abbrev pub behind : List Item → Result (List Item) Fault → Result (List Item) Fault
@@ -84,11 +77,7 @@ rows_stop last s [] found none inside = by s.place refl where
 -- the steps of a state are at most the lines read
 pub steps_counted : (s : Scope) (w : What) → (after s w).steps ≤ s.steps + 1
 steps_counted s (what.Kind name arguments) = omega arith
-steps_counted s (what.Var variables) = omega arith
-steps_counted s (what.State name holds settled) = omega arith
-steps_counted s (what.Step step) = omega arith
-steps_counted s what.End = omega arith
-steps_counted s (what.Root name kind arguments behind priority) = omega arith
+steps_counted s _ = omega arith
 
 -- a row is taken
 pub one_less : (rows : List Row) (at : Scan) → Some at ≡ first_start rows → length (drop 1 rows) + 1 ≡ length rows

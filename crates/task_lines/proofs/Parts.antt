@@ -1,7 +1,5 @@
 -- The parts of lines.
-use Rattle.task_lines.proofs.Vocabulary.{◌≡◌, ◌+◌, Bool, true, false, not, ◌&&◌, ◌||◌, List, [], ◌∷◌, ◌++◌, length, IsTrue, refl, ◌∙◌, ap, arith, list_any, length-append, list_any-append, Variable, Word, is_number, begins_with_digit}
-use Rattle.task_lines.specs.Scope.{is_variable}
-use Rattle.task_lines.specs.Line.{variable_of, is_new}
+use Rattle.task_lines.proofs.Vocabulary.{◌≡◌, ◌+◌, Bool, true, false, not, ◌&&◌, ◌||◌, List, [], ◌∷◌, ◌++◌, length, IsTrue, refl, ◌∙◌, ap, arith, list_any, length-append, list_any-append, Variable, Word, is_number, begins_with_digit, is_variable, variable_of, is_new}
 
 not_either : (a b : Bool) → not (a || b) ≡ (not a && not b)
 not_either true b = refl

@@ -1,17 +1,7 @@
 -- The items that are read from a text are spelled by its rows.
-use Rattle.task_lines.proofs.Vocabulary.{◌≡◌, ℕ, Bool, true, false, cond, List, [], ◌∷◌, length, Result, Ok, Err, refl, sym, ◌∙◌, ap, subst, arith, codes, differ-nil, same_bytes, NoHeader, NoEnd, Fault, fault_at, Row, lines_of, without_mark, rows_of, Scan, start_of, moved, check_text, whole, needed, same-ok, this-word, ArePresent, RowsPresent, rows-present, read-whole, whole-words}
+use Rattle.task_lines.proofs.Vocabulary.{◌≡◌, ℕ, Bool, true, false, cond, List, [], ◌∷◌, length, Result, Ok, Err, refl, sym, ◌∙◌, ap, subst, arith, codes, differ-nil, same_bytes, NoHeader, NoEnd, Fault, fault_at, Row, lines_of, without_mark, rows_of, Scan, start_of, moved, check_text, whole, needed, same-ok, this-word, ArePresent, RowsPresent, rows-present, read-whole, whole-words, same-answer, What, Item, Place, Outside, Scope, first_scope, after, header_line, read_line, is_cut_short, line_of, items_from, rows_behind_header, items_of, Spells, MayStand, RowsSpellFrom, RowsSpell}
 use Rattle.task_text.specs.Fault.{◌>>=◌}
-use Rattle.task_lines.specs.declared.item.What.{What}
 use Rattle.task_lines.specs.declared.item.What.TheVariants as what
-use Rattle.task_lines.specs.declared.item.Item.{Item}
-use Rattle.task_lines.specs.declared.scope.Place.{Place}
-use Rattle.task_lines.specs.declared.scope.Place.TheVariants.{Outside}
-use Rattle.task_lines.specs.declared.scope.Scope.{Scope}
-use Rattle.task_lines.specs.Scope.{first_scope, after}
-use Rattle.task_lines.specs.Line.{header_line}
-use Rattle.task_lines.specs.Table.{read_line}
-use Rattle.task_lines.specs.Reading.{is_cut_short, line_of, items_from, rows_behind_header, items_of}
-use Rattle.task_lines.specs.Grammar.{Spells, MayStand, RowsSpellFrom, RowsSpell}
 use Rattle.task_lines.proofs.SpelledParts.{AreNew}
 use Rattle.task_lines.proofs.SpelledLines.{line-taken}
 
@@ -20,9 +10,6 @@ use Rattle.task_lines.proofs.SpelledLines.{line-taken}
 pub result-parts : {A B : Type 0} (o : Result A Fault) (f : A → Result B Fault) (b : B) → o >>= f ≡ Ok b → (a : A) × (o ≡ Ok a) × (f a ≡ Ok b)
 result-parts (Ok a) f b e = (a, refl, e)
 result-parts (Err fault) f b e = cc
-
-pub same-answer : {A : Type 0} (a b : A) → ◌≡◌ {A = Result A Fault} (Ok a) (Ok b) → a ≡ b
-same-answer a b e = cc
 
 pub record SpellsRow (scope : Scope) (row : Row) (w : What) : Type 0 where
   pub spells : Spells row.words w
@@ -45,7 +32,7 @@ row-spelled scope new row present w e =
     subst (SpellsRow scope row) c.1 (record { spells = subst (λ ws. Spells ws q.0) (sym all) t.spells; stands = t.stands c.0 })
 
 -- the variables so far still differ behind a line that may stand
-new-after : (scope : Scope) (w : What) → MayStand scope w → AreNew 255 scope.variables → AreNew 255 (after scope w).variables
+pub new-after : (scope : Scope) (w : What) → MayStand scope w → AreNew 255 scope.variables → AreNew 255 (after scope w).variables
 new-after scope (what.Kind name arguments) stands new = (stands.3, omega (arith, stands.4))
 new-after scope (what.Var variables) stands new = (stands.1, stands.2)
 new-after scope w stands new = new
@@ -69,7 +56,7 @@ rows-spelled last (row ∷ rows) scope items present new e =
 
 -- ---- the header
 
-header-taken : (s : Scan) (r : Unit {0} × Scan) → header_line s ≡ Ok r → s.left ≡ codes "ktask" ∷ codes "1" ∷ r.1.left
+pub header-taken : (s : Scan) (r : Unit {0} × Scan) → header_line s ≡ Ok r → s.left ≡ codes "ktask" ∷ codes "1" ∷ r.1.left
 unfolding header_line
 header-taken s r e =
     let n = needed (same_bytes (codes "ktask")) NoHeader _ s r e in

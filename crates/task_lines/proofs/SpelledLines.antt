@@ -1,19 +1,9 @@
 -- The lines are spelled by the words that their parsers take.
-use Rattle.task_lines.proofs.Vocabulary.{◌≡◌, ◌≢◌, ℕ, ◌<◌, ◌≤◌, Bool, true, false, cond, Option, Some, None, List, [], ◌∷◌, ◌++◌, length, Ok, refl, sym, ◌∙◌, ap, subst, arith, append-nil, codes, AllDiffer, differ-nil, Word, TwiceNamed, BackLabel, is_missing, is_present, is_future, Scan, seen, moved, Outcome, Parser, ◌>>◌, pure, take_word, fixed, eat, one_or_more, same-ok, parts, roomy, fixed-taken, name-taken, new-name-taken, read-future-taken, each-taken, one-or-more-taken, Eaten, eaten, left, eat-taken}
+use Rattle.task_lines.proofs.Vocabulary.{◌≡◌, ◌≢◌, ℕ, ◌<◌, ◌≤◌, Bool, true, false, cond, Option, Some, None, List, [], ◌∷◌, ◌++◌, length, Ok, refl, sym, ◌∙◌, ap, subst, arith, append-nil, codes, AllDiffer, differ-nil, Word, TwiceNamed, BackLabel, is_missing, is_present, is_future, Scan, seen, moved, Outcome, Parser, ◌>>◌, pure, take_word, fixed, eat, one_or_more, same-ok, parts, roomy, fixed-taken, name-taken, new-name-taken, read-future-taken, each-taken, one-or-more-taken, Eaten, eaten, left, eat-taken, What, End, Keyword, Place, Outside, Head, Code, Jumped, Ended, Scope, keywords, keyword_word, keyword_of, may_open, allowed, opening, read_variable, read_other_future, read_holds, read_settled, is_argument, read_argument, is_root_argument, read_root_argument, read_member, is_open_state, is_cut_short, Spells, IsInState, MayBegin, MayStand}
 use Rattle.std.proofs.lemmas.List.{append_assoc}
-use Rattle.task_lines.specs.declared.item.What.{What}
-use Rattle.task_lines.specs.declared.item.What.TheVariants.{End}
-use Rattle.task_lines.specs.declared.keyword.Keyword.{Keyword}
 use Rattle.task_lines.specs.declared.keyword.Keyword.TheVariants as k
-use Rattle.task_lines.specs.declared.scope.Place.{Place}
-use Rattle.task_lines.specs.declared.scope.Place.TheVariants.{Outside, Head, Code, Jumped, Ended}
-use Rattle.task_lines.specs.declared.scope.Scope.{Scope}
-use Rattle.task_lines.specs.Keyword.{keywords, keyword_word, keyword_of, may_open, allowed, opening}
-use Rattle.task_lines.specs.Line.{read_variable, read_other_future, read_holds, read_settled, is_argument, read_argument, is_root_argument, read_root_argument, read_member}
 use Rattle.task_lines.specs.Spelling.{SpellsFuture, SpellsFutures, SpellsPassed, SpellsRootTerm, SpellsVariable, EachSpells}
 use Rattle.task_lines.specs.Table.{Part, GotoWord, AName, ANewName, ATarget, ATerm, ARelation, AFuture, KindVariables, MoreVariables, Arguments, RootArguments, Members, HeldFutures, SettledFutures, Predecessor, APriority, LastPriority, ARetry, Of, Values, names_of, read_part, read_parts, Choice, Choices, part_words, words_of, Keeps, KeepAll, parts_of, line_of_parts, counted, begun, keyword_line, line_by, read_line}
-use Rattle.task_lines.specs.Reading.{is_open_state, is_cut_short}
-use Rattle.task_lines.specs.Grammar.{Spells, IsInState, MayBegin, MayStand}
 use Rattle.task_lines.proofs.SpelledParts.{some-same, looked-up, word-first, list-taken, new-name, AreNew, term-taken, variable-taken, other-future-taken, argument-taken, root-argument-taken, member-taken, behind-taken, priority-taken, last-priority-taken, retry-taken, relation-taken}
 
 -- ---- what opens a line
@@ -238,28 +228,7 @@ words-end (part ∷ ps) vs c rest = ap (λ ws. part_words part vs.0 c.0 ++ ws) (
 pub entry-spells : (keyword : Keyword) (vs : Values (parts_of keyword)) (c : Choices (parts_of keyword) vs)
     → Spells (keyword_word keyword ∷ words_of (parts_of keyword) vs c []) (line_of_parts keyword vs)
 entry-spells k.Kind vs c = (c, refl)
-entry-spells k.Var vs c = (c, refl)
-entry-spells k.State vs c = (c, refl)
-entry-spells k.End vs c = (c, refl)
-entry-spells k.Root vs c = (c, refl)
-entry-spells k.Label vs c = (c, refl)
-entry-spells k.Set vs c = (c, refl)
-entry-spells k.Add vs c = (c, refl)
-entry-spells k.Sub vs c = (c, refl)
-entry-spells k.Mul vs c = (c, refl)
-entry-spells k.Div vs c = (c, refl)
-entry-spells k.Rem vs c = (c, refl)
-entry-spells k.If vs c = (c, refl)
-entry-spells k.Goto vs c = (c, refl)
-entry-spells k.Cell vs c = (c, refl)
-entry-spells k.Rows vs c = (c, refl)
-entry-spells k.Spawn vs c = (c, refl)
-entry-spells k.All vs c = (c, refl)
-entry-spells k.Copy vs c = (c, refl)
-entry-spells k.Drop vs c = (c, refl)
-entry-spells k.Get vs c = (c, refl)
-entry-spells k.Again vs c = (c, refl)
-entry-spells k.Done vs c = (c, refl)
+entry-spells _ vs c = (c, refl)
 
 -- where its parts name what they may, and nothing is cut short, it may stand
 stands : (scope : Scope) (keyword : Keyword) (vs : Values (parts_of keyword)) → may_open scope.place keyword ≡ true → IsWithin (counted scope keyword)
@@ -271,22 +240,11 @@ stands scope k.End vs may few keep cut = is-ended scope.place (opens-end scope.p
 stands scope k.Root vs may few keep cut = (opens-root scope.place may, few, keep.0, keep.1.1.0)
 stands scope k.Label vs may few keep cut = (opens-label scope.place may, few, keep.0)
 stands scope k.Set vs may few keep cut = (opens-step scope.place k.Set tt may, few, tt)
-stands scope k.Add vs may few keep cut = (opens-step scope.place k.Add tt may, few, tt)
-stands scope k.Sub vs may few keep cut = (opens-step scope.place k.Sub tt may, few, tt)
-stands scope k.Mul vs may few keep cut = (opens-step scope.place k.Mul tt may, few, tt)
-stands scope k.Div vs may few keep cut = (opens-step scope.place k.Div tt may, few, tt)
-stands scope k.Rem vs may few keep cut = (opens-step scope.place k.Rem tt may, few, tt)
 stands scope k.If vs may few keep cut = (opens-step scope.place k.If tt may, few, keep.1.1.1.1.0)
 stands scope k.Goto vs may few keep cut = (opens-step scope.place k.Goto tt may, few, keep.0)
-stands scope k.Cell vs may few keep cut = (opens-step scope.place k.Cell tt may, few, tt)
-stands scope k.Rows vs may few keep cut = (opens-step scope.place k.Rows tt may, few, tt)
 stands scope k.Spawn vs may few keep cut = (opens-step scope.place k.Spawn tt may, few, keep.1.1.0)
 stands scope k.All vs may few keep cut = (opens-step scope.place k.All tt may, few, keep.1.0)
-stands scope k.Copy vs may few keep cut = (opens-step scope.place k.Copy tt may, few, tt)
-stands scope k.Drop vs may few keep cut = (opens-step scope.place k.Drop tt may, few, tt)
-stands scope k.Get vs may few keep cut = (opens-step scope.place k.Get tt may, few, tt)
-stands scope k.Again vs may few keep cut = (opens-step scope.place k.Again tt may, few, tt)
-stands scope k.Done vs may few keep cut = (opens-step scope.place k.Done tt may, few, tt)
+stands scope keyword vs may few keep cut = (opens-step scope.place keyword tt may, few, tt)
 
 -- the words that were taken spell the line, and it may stand in the scope if nothing is cut short
 pub record TakesRow (scope : Scope) (s : Scan) (r : What × Scan) : Type 0 where
@@ -297,28 +255,7 @@ pub record TakesRow (scope : Scope) (s : Scan) (r : What × Scan) : Type 0 where
 
 keyword-present : (keyword : Keyword) → is_present (keyword_word keyword) ≡ true
 keyword-present k.Kind = refl
-keyword-present k.Var = refl
-keyword-present k.State = refl
-keyword-present k.End = refl
-keyword-present k.Root = refl
-keyword-present k.Label = refl
-keyword-present k.Set = refl
-keyword-present k.Add = refl
-keyword-present k.Sub = refl
-keyword-present k.Mul = refl
-keyword-present k.Div = refl
-keyword-present k.Rem = refl
-keyword-present k.If = refl
-keyword-present k.Goto = refl
-keyword-present k.Cell = refl
-keyword-present k.Rows = refl
-keyword-present k.Spawn = refl
-keyword-present k.All = refl
-keyword-present k.Copy = refl
-keyword-present k.Drop = refl
-keyword-present k.Get = refl
-keyword-present k.Again = refl
-keyword-present k.Done = refl
+keyword-present _ = refl
 
 line-by : (scope : Scope) → AreNew 255 scope.variables → (s : Scan) (r : What × Scan) (keyword : Keyword) → Opens scope.place (seen s) keyword
     → line_by scope (Some keyword) s ≡ Ok r → TakesRow scope s r

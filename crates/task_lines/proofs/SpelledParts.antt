@@ -1,14 +1,10 @@
 -- The parts of lines are spelled by the words that their parsers take.
-use Rattle.task_lines.proofs.Vocabulary.{◌≡◌, ℕ, zero, suc, ◌≤◌, Bool, true, false, not, ◌&&◌, ◌||◌, cond, Option, Some, None, List, [], ◌∷◌, ◌++◌, length, drop, slice_get, Ok, refl, sym, ◌∙◌, ap, subst, inl, inr, arith, codes, list_any, digits_value, length-append, same_bytes, is_name, AllDiffer, Sort, Variable, Relation, Less, AtMost, Equal, Differs, Priority, High, Regular, Low, either, not_true, or_right, differ-snoc, BadName, BadNumber, TwiceNamed, Word, is_missing, is_present, begins_with_digit, is_number, is_future, is_operand, is_no_bad_number, is_among, Scan, seen, moved, Outcome, ◌>>◌, ◌<$>◌, pure, take_word, need, room, fixed, read_future, eat, same-bytes, same-ok, parts, needed, roomy, first-word, same-word, future-parts, fixed-taken, read-future-taken, Eaten, eaten, left, eat-taken, TakesItem, TakesItems, ItemTakes}
+use Rattle.task_lines.proofs.Vocabulary.{◌≡◌, ℕ, zero, suc, ◌≤◌, Bool, true, false, not, ◌&&◌, ◌||◌, cond, Option, Some, None, List, [], ◌∷◌, ◌++◌, length, drop, slice_get, Ok, refl, sym, ◌∙◌, ap, subst, inl, inr, arith, codes, list_any, digits_value, length-append, same_bytes, is_name, AllDiffer, Sort, Variable, Relation, Less, AtMost, Equal, Differs, Priority, High, Regular, Low, either, not_true, or_right, differ-snoc, BadName, BadNumber, TwiceNamed, Word, is_missing, is_present, begins_with_digit, is_number, is_future, is_operand, is_no_bad_number, is_among, Scan, seen, moved, Outcome, ◌>>◌, ◌<$>◌, pure, take_word, need, room, fixed, read_future, eat, same-bytes, same-ok, parts, needed, roomy, first-word, same-word, future-parts, fixed-taken, read-future-taken, Eaten, eaten, left, eat-taken, TakesItem, TakesItems, ItemTakes, Term, same_sort, is_variable, has_variable, looked_up, written_by, relation_of, priority_of, term_of, read_term, is_variable_word, variable_of, is_new, read_variable, read_other_future, read_behind, priority_by, read_priority, last_priority_by, read_last_priority, read_retry, relation_by, read_relation, is_root_argument, root_term_of, read_root_argument, is_argument, passed_of, read_argument, read_member}
 use Rattle.std.proofs.lemmas.List.{append_assoc}
 use Rattle.task_syntax.specs.declared.program.Sort.TheVariants as sort
-use Rattle.task_lines.specs.declared.step.Term.{Term}
 use Rattle.task_lines.specs.declared.step.Term.TheVariants.{Literal, Variable as TermVariable}
 use Rattle.task_lines.specs.declared.step.Passed.TheVariants as passed
 use Rattle.task_lines.specs.declared.item.RootTerm.TheVariants as root_term
-use Rattle.task_lines.specs.Scope.{same_sort, is_variable, has_variable}
-use Rattle.task_lines.specs.Keyword.{looked_up, written_by, relation_of, priority_of}
-use Rattle.task_lines.specs.Line.{term_of, read_term, is_variable_word, variable_of, is_new, read_variable, read_other_future, read_behind, priority_by, read_priority, last_priority_by, read_last_priority, read_retry, relation_by, read_relation, is_root_argument, root_term_of, read_root_argument, is_argument, passed_of, read_argument, read_member}
 use Rattle.task_lines.specs.Grammar.{SpellsTerm, SpellsPassed, SpellsRootTerm, SpellsFuture, SpellsVariable, relation_word, priority_word, EachSpells, SpellsBehind, SpellsPriority, retry_words, IsNew}
 
 -- a word that spells what was read stands first
@@ -222,8 +218,7 @@ behind-taken s r e = let p = parts (eat (codes "behind") s) (λ found. cond foun
 
 priority-present : (priority : Priority) → is_present (priority_word priority) ≡ true
 priority-present High = refl
-priority-present Regular = refl
-priority-present Low = refl
+priority-present _ = refl
 
 one-priority : (s : Scan) (priority : Priority) (r : Priority × Scan) → priority_of (seen s) ≡ Some priority
     → ◌≡◌ {A = Outcome Priority} (Ok (priority, moved s)) (Ok r) → TakesWords SpellsPriority s r
@@ -265,9 +260,7 @@ retry-taken s r e = retry-by s r (is_missing (seen s)) e
 
 relation-present : (relation : Relation) → is_present (relation_word relation) ≡ true
 relation-present Less = refl
-relation-present AtMost = refl
-relation-present Equal = refl
-relation-present Differs = refl
+relation-present _ = refl
 
 relation-by : (s : Scan) (r : Relation × Scan) (o : Option Relation) → relation_of (seen s) ≡ o → relation_by o s ≡ Ok r → s.left ≡ relation_word r.0 ∷ r.1.left
 relation-by s r None o e = cc

@@ -34,5 +34,5 @@ pub rows_short : (text : List ℕ) → length (rows_of text) ≤ length text
 rows_short text = omega (arith, rows_from_short 1 (lines_of (without_mark text)), lines_short (without_mark text), unmarked_short (starts_with nat_eq text (239 ∷ 187 ∷ 191 ∷ [])) text)
 
 -- nor are there more behind the first
-pub rows_left_short : (text : List ℕ) → length (drop 1 (rows_of text)) ≤ length text
-rows_left_short text = omega (arith, length-drop 1 (rows_of text), rows_short text)
+pub few_rows : (text : List ℕ) → length (drop 1 (rows_of text)) ≤ length text
+few_rows text = omega (arith, length-drop 1 (rows_of text), rows_short text)

@@ -68,11 +68,6 @@ MayStand s (what.Root name kind arguments behind priority) =
 abbrev pub CanBeSpelled : What → Type 0
 CanBeSpelled what = (words : List Word) × Spells words what
 
--- the lines may stand one behind the other, and the last one closes what is open
-abbrev pub AreLines : Scope → List What → Type 0
-AreLines s [] = s.place ≡ Outside
-AreLines s (line ∷ lines) = CanBeSpelled line × MayStand s line × AreLines (after s line) lines
-
 -- the rows spell the items, each of which may stand behind those before it
 abbrev pub RowsSpellFrom : Scope → List Row → List Item → Type 0
 RowsSpellFrom s [] [] = s.place ≡ Outside

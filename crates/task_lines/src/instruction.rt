@@ -7,14 +7,15 @@ ghost use Rattle.task_lines.specs.Table.{keyword_line};
 
 use crate::item::What;
 use crate::keyword::Keyword;
-use crate::list::{read_arguments, read_members};
+use crate::list::{Arguments, Members, further};
 use crate::part::{
-    read_behind, read_last_priority, read_priority, read_relation, read_retry, read_term,
+    read_behind, read_last_priority, read_member, read_priority, read_relation, read_retry,
+    read_term,
 };
 use crate::scope::Scope;
 use crate::step::Step;
 use std::alloc::Global;
-use task_syntax::{MathOp, Name};
+use task_syntax::{List, MathOp, Name};
 use task_text::{Cause, Fault, TextError, Words};
 
 const MOST_STEPS: usize = 64;
@@ -66,7 +67,8 @@ fn operation_line(scope: &Scope, op: MathOp, words: &mut Words<'_>) -> Result<Wh
 
 #[tactic(auto, using(crate::proofs::Operations::operation_scans))]
 pub(crate) fn math_line(scope: &Scope, op: MathOp, words: &mut Words<'_>) -> Result<What, Fault>
-    ensures { Scans (keyword_line scope.now (spec.operation_keyword op) words.old) result words.new }
+    ensures { Scans (keyword_line scope.now (spec.operation_keyword op) words.old)
+        result words.new }
 {
     operation_line(scope, op, words)
 }
@@ -146,7 +148,7 @@ pub(crate) fn spawn_line(
     begin_step(scope, words)?;
     let to = words.read_future()?;
     let kind = words.read_name()?;
-    let arguments = read_arguments(alloc, words)?;
+    let arguments = further(Arguments, List::new(alloc), words)?;
     let behind = read_behind(words)?;
     let priority = read_priority(words);
     let retry = read_retry(words)?;
@@ -171,7 +173,9 @@ pub(crate) fn all_line(
 {
     begin_step(scope, words)?;
     let to = words.read_future()?;
-    let members = read_members(alloc, words)?;
+    let mut first = List::new(alloc);
+    first.push(read_member(&[], words)?)?;
+    let members = further(Members, first, words)?;
     let priority = read_priority(words);
     let retry = read_retry(words)?;
     let step = Step::All {

@@ -7,10 +7,8 @@ ghost use Rattle.task_lines.specs.Table.{keyword_line};
 
 use crate::item::What;
 use crate::keyword::Keyword;
-use crate::list::{
-    further_variables, read_futures, read_kind_arguments, read_last_futures, read_root_arguments,
-};
-use crate::part::{read_behind, read_last_priority, read_variable};
+use crate::list::{Futures, LastFutures, RootArguments, Variables, further, read_kind_arguments};
+use crate::part::{read_behind, read_last_priority, read_other_future, read_variable};
 use crate::scope::Scope;
 use std::alloc::Global;
 use task_syntax::{List, Name};
@@ -63,7 +61,11 @@ pub(crate) fn var_line(
     let before = scope.variables.as_slice();
     let mut first = List::new(alloc);
     first.push(read_variable(MOST_VARIABLES, before, &[], words)?)?;
-    let variables = further_variables(MOST_VARIABLES, before, first, words)?;
+    let list = Variables {
+        limit: MOST_VARIABLES,
+        before,
+    };
+    let variables = further(list, first, words)?;
     Ok(What::Var { variables })
 }
 
@@ -73,7 +75,9 @@ fn read_holds(alloc: Global, words: &mut Words<'_>) -> Result<List<Name>, TextEr
     ensures { Reads (spec.read_holds words.old) result words.new }
 {
     if words.eat(b"holds") {
-        read_futures(alloc, words)
+        let mut first = List::new(alloc);
+        first.push(read_other_future(&[], words)?)?;
+        further(Futures, first, words)
     } else {
         Ok(List::new(alloc))
     }
@@ -88,7 +92,9 @@ fn read_settled(alloc: Global, words: &mut Words<'_>) -> Result<List<Name>, Text
         return Ok(List::new(alloc));
     }
     words.fixed(b"settled")?;
-    read_last_futures(alloc, words)
+    let mut first = List::new(alloc);
+    first.push(read_other_future(&[], words)?)?;
+    further(LastFutures, first, words)
 }
 
 #[tactic(auto, unfolding(crate::specs::Table::keyword_line))]
@@ -131,7 +137,7 @@ pub(crate) fn root_line(
     words.take_word();
     let name = words.read_new_name(Cause::TwiceNamed, scope.roots.as_slice())?;
     let kind = words.read_name()?;
-    let arguments = read_root_arguments(alloc, words)?;
+    let arguments = further(RootArguments, List::new(alloc), words)?;
     let behind = read_behind(words)?;
     let priority = read_last_priority(words)?;
     Ok(What::Root {

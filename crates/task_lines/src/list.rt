@@ -1,7 +1,8 @@
 //! The lists in lines: an item for each of the words, as long as they stand for one.
 
-ghost use Rattle.std.specs.Prelude.{[], ◌++◌};
-ghost use Rattle.task_text.specs.Scan.{Reads, each, one_or_more};
+ghost use Rattle.std.specs.Prelude.{◌≡◌, ◌++◌, Bool, false, List as Items, [], IsTrue, IfOk, refl};
+ghost use Rattle.task_text.specs.Text.{Word};
+ghost use Rattle.task_text.specs.Scan.{Parser, Scans, Reads, each, seen, moved};
 ghost use Rattle.task_text.specs.Scan as scan;
 ghost use Rattle.task_lines.specs.Line as line;
 
@@ -13,23 +14,67 @@ use crate::part::{
 use crate::step::Passed;
 use std::alloc::Global;
 use task_syntax::{List, Name, Variable};
-use task_text::{TextError, Words, is_future, is_missing};
+use task_text::{Fault, TextError, Words, is_future, is_missing};
 
-/// Variables to the end of the line, behind those found, where `limit` may be with those before.
-pub(crate) fn further_variables(
-    limit: usize,
-    before: &[Variable],
-    mut found: List<Variable>,
+/// A list in a line: which words stand for an item, and what an item is read as.
+pub(crate) trait Listed {
+    type Item: Drop;
+
+    ghost test: { Self → Word → Bool };
+
+    ghost item: { Self → Items Self.Item → Parser Self.Item };
+
+    /// Whether a word stands for a further item.
+    fn goes_on(&self, word: &[u8]) -> bool
+        ensures { result ≡ test self.now word.now };
+
+    /// The item that the next word stands for, behind those found before.
+    fn read(&self, found: &[Self::Item], words: &mut Words<'_>) -> Result<Self::Item, Fault>
+        requires { IsTrue (test self.now (seen words.old)) }
+        ensures read { Scans (item self.now found.now words.old) result words.new }
+        ensures next { IfOk result (λ _. words.new ≡ moved words.old) };
+
+    // No item stands behind the last word.
+    ghost ends: { (list : Self) → test list [] ≡ false };
+}
+
+/// The further items of a list, behind those found.
+pub(crate) fn further<L: Listed + Drop>(
+    list: L,
+    mut found: List<L::Item>,
     words: &mut Words<'_>,
-) -> Result<List<Variable>, TextError>
-    ensures { Reads
-        (each scan.is_present (λ found. line.read_variable limit (before.now ++ found)) found words.old)
-        result words.new }
+) -> Result<List<L::Item>, TextError>
+    ensures { Reads (each (L.test list) (L.item list) found words.old) result words.new }
 {
-    'words: while !is_missing(words.peek()) {
-        found.push(read_variable(limit, before, found.as_slice(), words)?)?;
+    'words: while list.goes_on(words.peek()) {
+        found.push(list.read(found.as_slice(), words)?)?;
     }
     Ok(found)
+}
+
+/// Variables to the end of the line, where `limit` may be with those before.
+#[derive(Drop)]
+pub(crate) struct Variables<'v> {
+    pub limit: usize,
+    pub before: &'v [Variable],
+}
+
+impl Listed for Variables<'_> {
+    type Item = Variable;
+
+    ghost test = { λ _. scan.is_present };
+
+    ghost item = { λ list found. line.read_variable list.limit (list.before.now ++ found) };
+
+    fn goes_on(&self, word: &[u8]) -> bool {
+        !is_missing(word)
+    }
+
+    fn read(&self, found: &[Variable], words: &mut Words<'_>) -> Result<Variable, Fault> {
+        read_variable(self.limit, self.before, found, words)
+    }
+
+    ghost ends = { λ _. refl };
 }
 
 /// The arguments of a kind.
@@ -39,98 +84,119 @@ pub(crate) fn read_kind_arguments(
 ) -> Result<List<Variable>, TextError>
     ensures { Reads (each scan.is_present (line.read_variable 16) [] words.old) result words.new }
 {
-    further_variables(MOST_ARGUMENTS, &[], List::new(alloc), words)
+    let list = Variables {
+        limit: MOST_ARGUMENTS,
+        before: &[],
+    };
+    further(list, List::new(alloc), words)
 }
 
-/// Futures as long as there are any, behind those found.
-fn further_futures(mut found: List<Name>, words: &mut Words<'_>) -> Result<List<Name>, TextError>
-    ensures { Reads (each scan.is_future line.read_other_future found words.old) result words.new }
-{
-    'words: while is_future(words.peek()) {
-        found.push(read_other_future(found.as_slice(), words)?)?;
+/// Futures, as long as there are any.
+#[derive(Drop)]
+pub(crate) struct Futures;
+
+impl Listed for Futures {
+    type Item = Name;
+
+    ghost test = { λ _. scan.is_future };
+
+    ghost item = { λ _. line.read_other_future };
+
+    fn goes_on(&self, word: &[u8]) -> bool {
+        is_future(word)
     }
-    Ok(found)
-}
 
-/// At least one future, as long as there are any.
-pub(crate) fn read_futures(alloc: Global, words: &mut Words<'_>) -> Result<List<Name>, TextError>
-    ensures { Reads (one_or_more scan.is_future line.read_other_future words.old) result words.new }
-{
-    let mut found = List::new(alloc);
-    found.push(read_other_future(found.as_slice(), words)?)?;
-    further_futures(found, words)
-}
-
-/// Futures to the end of the line, behind those found.
-fn further_last_futures(
-    mut found: List<Name>,
-    words: &mut Words<'_>,
-) -> Result<List<Name>, TextError>
-    ensures { Reads (each scan.is_present line.read_other_future found words.old) result words.new }
-{
-    'words: while !is_missing(words.peek()) {
-        found.push(read_other_future(found.as_slice(), words)?)?;
+    fn read(&self, found: &[Name], words: &mut Words<'_>) -> Result<Name, Fault> {
+        read_other_future(found, words)
     }
-    Ok(found)
+
+    ghost ends = { λ _. refl };
 }
 
-/// At least one future, to the end of the line.
-pub(crate) fn read_last_futures(
-    alloc: Global,
-    words: &mut Words<'_>,
-) -> Result<List<Name>, TextError>
-    ensures { Reads (one_or_more scan.is_present line.read_other_future words.old)
-        result words.new }
-{
-    let mut found = List::new(alloc);
-    found.push(read_other_future(found.as_slice(), words)?)?;
-    further_last_futures(found, words)
+/// Futures to the end of the line.
+#[derive(Drop)]
+pub(crate) struct LastFutures;
+
+impl Listed for LastFutures {
+    type Item = Name;
+
+    ghost test = { λ _. scan.is_present };
+
+    ghost item = { λ _. line.read_other_future };
+
+    fn goes_on(&self, word: &[u8]) -> bool {
+        !is_missing(word)
+    }
+
+    fn read(&self, found: &[Name], words: &mut Words<'_>) -> Result<Name, Fault> {
+        read_other_future(found, words)
+    }
+
+    ghost ends = { λ _. refl };
 }
 
 /// What a spawn passes.
-pub(crate) fn read_arguments(
-    alloc: Global,
-    words: &mut Words<'_>,
-) -> Result<List<Passed>, TextError>
-    ensures { Reads (each line.is_argument line.read_argument [] words.old) result words.new }
-{
-    let mut found = List::new(alloc);
-    'words: while is_argument(words.peek()) {
-        found.push(read_argument(found.as_slice(), words)?)?;
-    }
-    Ok(found)
-}
+#[derive(Drop)]
+pub(crate) struct Arguments;
 
-/// Members of an aggregate, behind those found.
-fn further_members(mut found: List<Name>, words: &mut Words<'_>) -> Result<List<Name>, TextError>
-    ensures { Reads (each scan.is_future line.read_member found words.old) result words.new }
-{
-    'words: while is_future(words.peek()) {
-        found.push(read_member(found.as_slice(), words)?)?;
+impl Listed for Arguments {
+    type Item = Passed;
+
+    ghost test = { λ _. line.is_argument };
+
+    ghost item = { λ _. line.read_argument };
+
+    fn goes_on(&self, word: &[u8]) -> bool {
+        is_argument(word)
     }
-    Ok(found)
+
+    fn read(&self, found: &[Passed], words: &mut Words<'_>) -> Result<Passed, Fault> {
+        read_argument(found, words)
+    }
+
+    ghost ends = { λ _. refl };
 }
 
 /// The members of an aggregate.
-pub(crate) fn read_members(alloc: Global, words: &mut Words<'_>) -> Result<List<Name>, TextError>
-    ensures { Reads (one_or_more scan.is_future line.read_member words.old) result words.new }
-{
-    let mut found = List::new(alloc);
-    found.push(read_member(found.as_slice(), words)?)?;
-    further_members(found, words)
+#[derive(Drop)]
+pub(crate) struct Members;
+
+impl Listed for Members {
+    type Item = Name;
+
+    ghost test = { λ _. scan.is_future };
+
+    ghost item = { λ _. line.read_member };
+
+    fn goes_on(&self, word: &[u8]) -> bool {
+        is_future(word)
+    }
+
+    fn read(&self, found: &[Name], words: &mut Words<'_>) -> Result<Name, Fault> {
+        read_member(found, words)
+    }
+
+    ghost ends = { λ _. refl };
 }
 
 /// What a root passes.
-pub(crate) fn read_root_arguments(
-    alloc: Global,
-    words: &mut Words<'_>,
-) -> Result<List<RootTerm>, TextError>
-    ensures { Reads (each line.is_root_argument line.read_root_argument [] words.old)
-        result words.new }
-{
-    let mut found = List::new(alloc);
-    'words: while is_root_argument(words.peek()) {
-        found.push(read_root_argument(found.as_slice(), words)?)?;
+#[derive(Drop)]
+pub(crate) struct RootArguments;
+
+impl Listed for RootArguments {
+    type Item = RootTerm;
+
+    ghost test = { λ _. line.is_root_argument };
+
+    ghost item = { λ _. line.read_root_argument };
+
+    fn goes_on(&self, word: &[u8]) -> bool {
+        is_root_argument(word)
     }
-    Ok(found)
+
+    fn read(&self, found: &[RootTerm], words: &mut Words<'_>) -> Result<RootTerm, Fault> {
+        read_root_argument(found, words)
+    }
+
+    ghost ends = { λ _. refl };
 }

@@ -20,15 +20,15 @@ pub(crate) const MOST_ARGUMENTS: usize = 16;
 const MOST_MEMBERS: usize = 8;
 
 /// A number or a number variable.
-#[tactic(auto, unfolding(crate::specs::Line::read_term, task_text::specs::Scan::need, task_text::specs::Scan::read_number, task_text::specs::Scan::read_name))]
+#[tactic(auto, unfolding(crate::specs::Line::read_term, task_text::specs::Scan::need))]
 pub(crate) fn read_term(words: &mut Words<'_>) -> Result<Term, Fault>
     ensures { Scans (spec.read_term words.old) result words.new }
 {
-    if begins_with_digit(words.peek()) {
-        Ok(Term::Literal(words.read_number()?))
-    } else {
-        Ok(Term::Variable(words.read_name()?))
-    }
+    let word = words.peek();
+    words.need(is_no_bad_number(word), Cause::BadNumber)?;
+    words.need(is_operand(word), Cause::BadName)?;
+    words.take_word();
+    Ok(term_of(word))
 }
 
 fn is_variable_word(word: &[u8]) -> bool
@@ -84,8 +84,16 @@ fn is_new_behind(before: &[Variable], found: &[Variable], word: &[u8]) -> bool
     is_new(before, word) && is_new(found, word)
 }
 
+/// How many variables there are in both lists.
+#[tactic(auto, using(crate::proofs::Parts::count_in_both))]
+fn count_in_both(before: &[Variable], found: &[Variable]) -> usize
+    ensures { result ≡ length (before.now ++ found.now) }
+{
+    before.len() + found.len()
+}
+
 /// A variable that is none of those of its kind so far, which may be `limit` in number.
-#[tactic(auto, using(crate::proofs::Parts::count_in_both), unfolding(crate::specs::Line::read_variable, task_text::specs::Scan::need))]
+#[tactic(auto, unfolding(crate::specs::Line::read_variable, task_text::specs::Scan::need))]
 pub(crate) fn read_variable(
     limit: usize,
     before: &[Variable],
@@ -99,13 +107,13 @@ pub(crate) fn read_variable(
     let word = words.peek();
     words.need(is_variable_word(word), Cause::BadName)?;
     words.need(is_new_behind(before, found, word), Cause::TwiceNamed)?;
-    words.room(before.len() + found.len(), limit)?;
+    words.room(count_in_both(before, found), limit)?;
     words.take_word();
     Ok(variable_of(word))
 }
 
 /// The name of a future that is none of those before it in its list.
-#[tactic(auto, unfolding(crate::specs::Line::read_other_future, task_text::specs::Scan::need, task_text::specs::Scan::read_future))]
+#[tactic(auto, unfolding(crate::specs::Line::read_other_future, task_text::specs::Scan::need))]
 pub(crate) fn read_other_future(taken: &[Name], words: &mut Words<'_>) -> Result<Name, Fault>
     ensures read { Scans (spec.read_other_future taken.now words.old) result words.new }
     ensures next { IfOk result (λ _. words.new ≡ moved words.old) }
@@ -113,7 +121,8 @@ pub(crate) fn read_other_future(taken: &[Name], words: &mut Words<'_>) -> Result
     let word = words.peek();
     words.need(is_future(word), Cause::BadName)?;
     words.need(!is_among(taken, future_name(word)), Cause::TwiceNamed)?;
-    words.read_future()
+    words.take_word();
+    Ok(Name::new(future_name(word)))
 }
 
 /// Whether a word stands for what a spawn passes.
@@ -164,14 +173,16 @@ pub(crate) fn read_argument(found: &[Passed], words: &mut Words<'_>) -> Result<P
 }
 
 /// A member of an aggregate, behind those found before.
-#[tactic(auto, unfolding(crate::specs::Line::read_member, task_text::specs::Scan::need, task_text::specs::Scan::read_future))]
+#[tactic(auto, unfolding(crate::specs::Line::read_member, task_text::specs::Scan::need))]
 pub(crate) fn read_member(found: &[Name], words: &mut Words<'_>) -> Result<Name, Fault>
     ensures read { Scans (spec.read_member found.now words.old) result words.new }
     ensures next { IfOk result (λ _. words.new ≡ moved words.old) }
 {
-    words.need(is_future(words.peek()), Cause::BadName)?;
+    let word = words.peek();
+    words.need(is_future(word), Cause::BadName)?;
     words.room(found.len(), MOST_MEMBERS)?;
-    words.read_future()
+    words.take_word();
+    Ok(Name::new(future_name(word)))
 }
 
 /// Whether a word stands for what a root passes.

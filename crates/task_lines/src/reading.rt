@@ -4,6 +4,8 @@ ghost use Rattle.std.specs.Prelude.{◌≡◌, ◌≢◌, ◌+◌, ◌<◌, ◌^
 ghost use Rattle.std.specs.Prelude.{length, drop, IfOk, MatchResult};
 ghost use Rattle.task_text.specs.Fault.{Gives, fault_at};
 ghost use Rattle.task_lines.specs.Scope.{first_scope, after};
+ghost use Rattle.task_text.specs.Scan.{Scans, and_then, ended, whole};
+ghost use Rattle.task_lines.specs.Line as line;
 ghost use Rattle.task_lines.specs.Reading as spec;
 
 use crate::item::Item;
@@ -15,7 +17,26 @@ use task_syntax::List;
 use task_text::{Cause, Fault, Rows, TextError, Words, count_lines};
 
 /// The header, and nothing behind it.
-#[tactic(auto, using(crate::proofs::Starts::from_start), unfolding(crate::specs::Reading::rows_behind_header, task_text::specs::Scan::whole, task_text::specs::Scan::need))]
+#[tactic(auto, unfolding(task_text::specs::Scan::need))]
+fn whole_header(words: &mut Words<'_>) -> Result<(), Fault>
+    ensures { Scans (and_then (line.header_line words.old) ended) result words.new }
+{
+    header_line(words)?;
+    words.ended()
+}
+
+/// The header in a row of which no word is taken yet, and nothing behind it.
+#[tactic(auto, using(crate::proofs::Starts::from_start), unfolding(task_text::specs::Scan::whole))]
+fn header_row(words: &mut Words<'_>) -> Result<(), Fault>
+    requires { words.old.word ≡ 1 }
+    ensures { result
+        ≡ whole line.header_line (record { line = words.old.line; words = words.old.left }) }
+{
+    whole_header(words)
+}
+
+/// The header, behind which the rows are left.
+#[tactic(auto, unfolding(crate::specs::Reading::rows_behind_header))]
 fn take_header(rows: &mut Rows<'_>) -> Result<(), Fault>
     ensures read { MatchResult result (λ _. spec.rows_behind_header rows.old ≡ Ok rows.new)
         (λ fault. spec.rows_behind_header rows.old ≡ Err fault) }
@@ -29,8 +50,7 @@ fn take_header(rows: &mut Rows<'_>) -> Result<(), Fault>
         });
     };
     words.check_text()?;
-    header_line(&mut words)?;
-    words.ended()
+    header_row(&mut words)
 }
 
 /// The number of the line of a row.
@@ -86,7 +106,7 @@ fn items_from(alloc: Global, last: u32, rows: &mut Rows<'_>) -> Result<List<Item
 }
 
 /// The items of a text, or its first fault but an unknown name.
-#[tactic(auto, using(crate::proofs::Starts::rows_left_short), unfolding(crate::specs::Reading::items_of))]
+#[tactic(auto, using(crate::proofs::Starts::few_rows), unfolding(crate::specs::Reading::items_of))]
 pub fn items_of(alloc: Global, text: &[u8]) -> Result<List<Item>, TextError>
     requires { length text.now < 2 ^ 32 }
     ensures { Gives (λ items. items) result (spec.items_of text.now) }

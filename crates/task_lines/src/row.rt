@@ -2,7 +2,7 @@
 
 ghost use Rattle.std.specs.Prelude.{◌≡◌, Some};
 ghost use Rattle.task_text.specs.Fault.{Gives};
-ghost use Rattle.task_text.specs.Scan.{Reads, and_then, ended};
+ghost use Rattle.task_text.specs.Scan.{Reads, and_then, ended, whole};
 ghost use Rattle.task_lines.specs.Table as table;
 ghost use Rattle.task_lines.specs.Reading as spec;
 
@@ -74,6 +74,17 @@ fn whole_line(alloc: Global, scope: &Scope, words: &mut Words<'_>) -> Result<Wha
     Ok(what)
 }
 
+/// The line of a row of which no word is taken yet, and nothing behind it.
+#[tactic(auto, using(crate::proofs::Starts::from_start), unfolding(task_text::specs::Scan::whole))]
+fn row_line(alloc: Global, scope: &Scope, words: &mut Words<'_>) -> Result<What, TextError>
+    requires { words.old.word ≡ 1 }
+    ensures { Gives (λ what. what) result
+        (whole (table.read_line scope.now)
+        (record { line = words.old.line; words = words.old.left })) }
+{
+    whole_line(alloc, scope, words)
+}
+
 /// Whether a state ends before it may.
 fn is_open_state(place: Place) -> bool
     ensures { result ≡ spec.is_open_state place }
@@ -93,7 +104,7 @@ fn is_cut_short(place: Place, what: &What) -> bool
 }
 
 /// The line of a row, of which no word is taken yet.
-#[tactic(auto, using(crate::proofs::Starts::from_start), unfolding(crate::specs::Reading::line_of, task_text::specs::Scan::whole, task_text::specs::Scan::fault_here))]
+#[tactic(auto, unfolding(crate::specs::Reading::line_of, task_text::specs::Scan::fault_here))]
 pub(crate) fn line_of(
     alloc: Global,
     scope: &Scope,
@@ -108,7 +119,7 @@ pub(crate) fn line_of(
         word: 0,
         ..words.fault(Cause::NoEnd)
     };
-    let what = whole_line(alloc, scope, words)?;
+    let what = row_line(alloc, scope, words)?;
     if is_cut_short(scope.place, &what) {
         Err(TextError::Fault(too_soon))
     } else {

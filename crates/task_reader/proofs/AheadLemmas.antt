@@ -1,10 +1,6 @@
 -- What is looked for ahead is what the definitions list.
-use Rattle.task_reader.proofs.Vocabulary.{◌≡◌, ◌≤◌, ℕ, ◌+◌, Bool, true, false, cond, not, ◌||◌, List, [], ◌∷◌, ◌++◌, take, length, refl, sym, ◌∙◌, arith, list_any, prefix_len, take_while, one-add, length-prefix_len, list_any-append, same_bytes, is_among, Step, Label, What, Item}
+use Rattle.task_reader.proofs.Vocabulary.{◌≡◌, ◌≤◌, ℕ, ◌+◌, Bool, true, false, cond, not, ◌||◌, List, [], ◌∷◌, ◌++◌, take, length, refl, sym, ◌∙◌, arith, list_any, prefix_len, take_while, one-add, length-prefix_len, list_any-append, same_bytes, is_among, Step, Label, What, Item, step_label, label_names, state_names, is_label, steps_to, steps_ahead, is_step, is_inside, labels, passes_by, begins}
 use Rattle.task_lines.specs.declared.item.What.TheVariants as what
-use Rattle.task_reader.specs.Names.{step_label, label_names, state_names}
-use Rattle.task_reader.specs.Program.{is_label, steps_to}
-use Rattle.task_reader.specs.Fits.{steps_ahead}
-use Rattle.task_reader.specs.Ahead.{is_step, is_inside, labels, passes_by, begins}
 
 while-step : {X : Type 0} (b : Bool) (test : X → Bool) (n : ℕ) (x : X) (xs : List X)
     → list_any test (take (cond b (1 + n) 0) (x ∷ xs)) ≡ cond b (test x || list_any test (take n xs)) false

@@ -1,7 +1,5 @@
 -- The first word that may not stand, by its place.
-use Rattle.task_reader.proofs.Vocabulary.{◌≡◌, ◌<◌, ℕ, zero, suc, ◌+◌, Bool, true, false, cond, Option, Some, None, unwrap_or, List, [], ◌∷◌, slice_get, Result, Ok, Err, refl, sym, ◌∙◌, ap, arith, Cause, NotText, Fault, fault_at, Word, is_text, check_words}
-use Rattle.task_reader.specs.Asked.{Asked, cause_of, behind_word}
-use Rattle.task_reader.specs.Faults.{cause_at, IsRefusedAt, AreAsAsked, IsNoTextAt, AreText}
+use Rattle.task_reader.proofs.Vocabulary.{◌≡◌, ◌<◌, ℕ, zero, suc, ◌+◌, Bool, true, false, cond, Option, Some, None, unwrap_or, List, [], ◌∷◌, slice_get, Result, Ok, Err, refl, sym, ◌∙◌, ap, arith, Cause, NotText, Fault, fault_at, Word, is_text, check_words, Asked, cause_of, behind_word, cause_at, IsRefusedAt, AreAsAsked, IsNoTextAt, AreText}
 use Rattle.task_reader.proofs.AskedWords.{first_or, verdict}
 
 -- ---- words that may not stand

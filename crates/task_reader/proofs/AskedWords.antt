@@ -1,7 +1,6 @@
 -- Where a parser stops is the first word that is not as the table asks.
-use Rattle.task_reader.proofs.Vocabulary.{◌≡◌, ℕ, ◌+◌, Bool, true, false, not, cond, Option, Some, None, List, [], ◌∷◌, ◌++◌, map, drop, Result, Ok, Err, refl, sym, ◌∙◌, ap, subst, ◌⊎◌, inl, inr, IsSome, if◌then◌else◌, Cause, WordsLeft, Fault, fault_at, Word, Row, is_missing, Scan, start_of, first_of, seen, moved, number_behind, fault_here, Outcome, Parser, and_then, pure, need, each_along, each, ended, without_scan, whole, ArePresent}
+use Rattle.task_reader.proofs.Vocabulary.{◌≡◌, ℕ, ◌+◌, Bool, true, false, not, cond, Option, Some, None, List, [], ◌∷◌, ◌++◌, map, drop, Result, Ok, Err, refl, sym, ◌∙◌, ap, subst, ◌⊎◌, inl, inr, IsSome, if◌then◌else◌, Cause, WordsLeft, Fault, fault_at, Word, Row, is_missing, Scan, start_of, first_of, seen, moved, number_behind, fault_here, Outcome, Parser, and_then, pure, need, each_along, each, ended, without_scan, whole, ArePresent, Test, Asked, End, One, Many, By, failed_by, cause_of, behind_word}
 use Rattle.task_text.specs.Scan.{◌>>=◌, ◌>>◌}
-use Rattle.task_reader.specs.Asked.{Test, Asked, End, One, Many, By, failed_by, cause_of, behind_word}
 
 -- ---- the first word that may not stand
 
@@ -121,10 +120,6 @@ judged tests f s next words is present (Err fault) h =
 -- a word that passes its tests is taken, where no missing word could pass them
 pub word-follows : {A : Type 0} (tests : List Test) (f : Word → A) → IsSome (failed_by tests []) → Follows (tested tests f) (One tests)
 word-follows tests f some s next = judged tests f s next s.left refl (inl some) (tested tests f s) (ends tests f s)
-
--- the same of a word that is there
-pub word-there : {A : Type 0} (tests : List Test) (f : Word → A) (s : Scan) → is_missing (seen s) ≡ false → FollowsAt (tested tests f) (One tests) s
-word-there tests f s there next = judged tests f s next s.left refl (inr there) (tested tests f s) (ends tests f s)
 
 -- ---- what depends on the next word
 

@@ -1,10 +1,6 @@
 -- The fault of a text is the first one, of its lines or of their names.
-use Rattle.task_reader.proofs.Vocabulary.{◌≡◌, ℕ, List, Result, Ok, Err, refl, ◌∙◌, ap, inl, inr, Program, Fault, Item, first_scope, items_of, items_of-accepted, items_of-spelled}
+use Rattle.task_reader.proofs.Vocabulary.{◌≡◌, ℕ, List, Result, Ok, Err, refl, ◌∙◌, ap, inl, inr, Program, Fault, Item, first_scope, items_of, items_of-accepted, items_of-spelled, names_known, program_of, program_in, IsFirstFault}
 use Rattle.task_text.specs.Fault.{◌>>=◌}
-use Rattle.task_reader.specs.Names.{names_known}
-use Rattle.task_reader.specs.Program.{program_of}
-use Rattle.task_reader.specs.Read.{program_in}
-use Rattle.task_reader.specs.Faults.{IsFirstFault}
 use Rattle.task_reader.proofs.FirstFaults.{same-fault, items-found}
 use Rattle.task_reader.proofs.FirstUnknown.{unknown-found}
 use Rattle.task_reader.proofs.RowsTold.{stops, lines-told}

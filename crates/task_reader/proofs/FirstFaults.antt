@@ -1,9 +1,7 @@
 -- The fault of a text that is told is its first.
-use Rattle.task_reader.proofs.Vocabulary.{◌≡◌, ◌≢◌, ℕ, Bool, true, false, cond, List, [], ◌∷◌, ◌++◌, length, Result, Ok, Err, refl, sym, ◌∙◌, ap, subst, ◌⊎◌, inl, inr, arith, codes, same_bytes, differ-nil, NoHeader, NoEnd, Fault, fault_at, Word, Row, lines_of, without_mark, rows_of, Scan, start_of, moved, check_text, whole, needed, same-ok, this-word, ArePresent, RowsPresent, rows-present, read-whole, whole-words, What, Item, Place, Outside, Head, Code, Jumped, Ended, Scope, first_scope, after, header_line, read_line, is_open_state, is_cut_short, line_of, items_from, rows_behind_header, items_of, Spells, MayStand, AreNew, line-taken, SpellsRow}
+use Rattle.task_reader.proofs.Vocabulary.{◌≡◌, ◌≢◌, ℕ, Bool, true, false, cond, List, [], ◌∷◌, ◌++◌, length, Result, Ok, Err, refl, sym, ◌∙◌, ap, subst, ◌⊎◌, inl, inr, arith, codes, differ-nil, NoHeader, NoEnd, Fault, fault_at, Word, Row, lines_of, without_mark, rows_of, start_of, check_text, whole, ArePresent, RowsPresent, rows-present, read-whole, whole-words, What, Item, Place, Outside, Head, Code, Jumped, Ended, Scope, first_scope, after, header_line, read_line, is_open_state, is_cut_short, line_of, items_from, rows_behind_header, items_of, Spells, MayStand, AreNew, line-taken, SpellsRow, new-after, header-taken, Asked, header_asked, line_asked, word_at, AreAsAsked, AreText, RowFault, EndsTooSoon, LeadTo, LineFault, no_row, in_header, in_row, too_soon, left_open}
 use Rattle.task_text.specs.Fault.{◌>>=◌}
 use Rattle.task_lines.specs.declared.item.What.TheVariants as what
-use Rattle.task_reader.specs.Asked.{Asked, header_asked, line_asked}
-use Rattle.task_reader.specs.Faults.{word_at, AreAsAsked, AreText, RowFault, EndsTooSoon, LeadTo, LineFault, no_row, in_header, in_row, too_soon, left_open}
 use Rattle.task_reader.proofs.AskedWords.{RowAgrees, whole-agrees}
 use Rattle.task_reader.proofs.AskedLines.{line-agrees, header-agrees}
 use Rattle.task_reader.proofs.AskedPlaces.{TextAnswer, refused-from, all-asked, text-answers}
@@ -95,12 +93,6 @@ one-before last scope row rows w fault here (found_soon before others end at par
 one-before last scope row rows w fault here (found_open end lines unclosed e) =
     found_open end (w, here.spells, here.stands, lines) unclosed e
 
--- the variables so far still differ behind a line that may stand
-pub new-after : (scope : Scope) (w : What) → MayStand scope w → AreNew 255 scope.variables → AreNew 255 (after scope w).variables
-new-after scope (what.Kind name arguments) stands new = (stands.3, omega (arith, stands.4))
-new-after scope (what.Var variables) stands new = (stands.1, stands.2)
-new-after scope w stands new = new
-
 pub same-fault : {A : Type 0} (f g : Fault) → ◌≡◌ {A = Result A Fault} (Err f) (Err g) → f ≡ g
 same-fault f g e = cc
 
@@ -131,14 +123,6 @@ lines-found last (row ∷ rows) scope present new fault e =
         more (Err g) is e = later w here (is ∙ ap (λ (g : Fault). Err g) (same-fault {A = List Item} g fault e))
 
 -- ---- the text
-
-header-taken : (s : Scan) (r : Unit {0} × Scan) → header_line s ≡ Ok r → s.left ≡ codes "ktask" ∷ codes "1" ∷ r.1.left
-unfolding header_line
-header-taken s r e =
-    let n = needed (same_bytes (codes "ktask")) NoHeader _ s r e in
-    let m = needed (same_bytes (codes "1")) NoHeader _ (moved s) r n.1 in
-    this-word (codes "ktask") s refl n.0 ∙ ap (λ ws. codes "ktask" ∷ ws)
-    (this-word (codes "1") (moved s) refl m.0 ∙ ap (λ (t : Unit {0} × Scan). codes "1" ∷ t.1.left) (same-ok (tt, moved (moved s)) r m.1))
 
 -- the header of a text whose first row is read as one
 pub header-words : (row : Row) (u : Unit {0}) → ArePresent row.words → whole header_line row ≡ Ok u → row.words ≡ codes "ktask" ∷ codes "1" ∷ []

@@ -1,11 +1,8 @@
 -- The first name that no line gives.
-use Rattle.task_reader.proofs.Vocabulary.{◌≡◌, ◌<◌, ℕ, zero, suc, ◌+◌, add-one, Bool, true, false, Some, List, [], ◌∷◌, ◌++◌, length, slice_get, Result, Ok, Err, refl, sym, ◌∙◌, ap, subst, arith, UnknownName, Fault, fault_at, Row, rows_of, Item, Scope, first_scope, after, Spells, RowsSpellFrom, RowsSpell}
+use Rattle.task_reader.proofs.Vocabulary.{◌≡◌, ◌<◌, ℕ, zero, suc, ◌+◌, add-one, Bool, true, false, Some, List, [], ◌∷◌, ◌++◌, length, slice_get, Result, Ok, Err, refl, sym, ◌∙◌, ap, subst, arith, UnknownName, Fault, fault_at, Row, rows_of, Item, Scope, first_scope, after, Spells, RowsSpellFrom, RowsSpell, Use, line_uses, Known, is_given, known, known_at, uses_known, line_known, names_known, scope_behind, UsesAt, IsFirstUnknown}
 use Rattle.task_text.specs.Fault.{◌>>◌}
-use Rattle.task_reader.specs.Uses.{Use, line_uses}
-use Rattle.task_reader.specs.Names.{Known, is_given, known, known_at, uses_known, line_known, names_known}
-use Rattle.task_reader.specs.Faults.{scope_behind, UsesAt, IsFirstUnknown}
 use Rattle.task_reader.proofs.Known.{AllGiven, all-given}
-use Rattle.task_reader.proofs.UsedWords.{use-spelled}
+use Rattle.task_reader.proofs.UsedWords.{use-spelled, same-use}
 
 -- ---- in a line
 
@@ -20,9 +17,6 @@ pub record UnknownAmong (k : Known) (line n : ℕ) (uses : List Use) (fault : Fa
 
 same-fault : (f g : Fault) → ◌≡◌ {A = Result (Unit {0}) Fault} (Err f) (Err g) → f ≡ g
 same-fault f g e = cc
-
-same-use : (one other : Use) → Some one ≡ Some other → one ≡ other
-same-use one other e = cc
 
 unknown-later : (k : Known) (line n : ℕ) (first : Use) (uses : List Use) (fault : Fault) → is_given k first ≡ true → UnknownAmong k line (n + 1) uses fault → UnknownAmong k line n (first ∷ uses) fault
 unknown-later k line n first uses fault given u =

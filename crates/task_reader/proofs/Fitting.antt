@@ -1,11 +1,8 @@
 -- The items of a text keep the limits.
-use Rattle.task_reader.proofs.Vocabulary.{◌≡◌, ℕ, suc, ◌+◌, ◌*◌, ◌^◌, ◌<◌, ◌≤◌, Bool, true, false, cond, not, ◌==◌, List, [], ◌∷◌, ◌++◌, length, drop, refl, sym, ap, subst, append-nil, codes, arith, starts_with, prefix_len, length-take, length-drop, nat_eq, Word, Row, in_front, lines_of, code_of, words_of, with_row, rows_from, without_mark, rows_of, length-words_of, Step, Spawn, All, What, Item, Scope, first_scope, after, SpellsFuture, EachSpells, SpellsFutures, Spells, MayStand, MayName, RowsSpellFrom, RowsSpell}
+use Rattle.task_reader.proofs.Vocabulary.{◌≡◌, ℕ, suc, ◌+◌, ◌*◌, ◌^◌, ◌<◌, ◌≤◌, Bool, true, false, cond, not, ◌==◌, List, [], ◌∷◌, ◌++◌, length, drop, refl, sym, ap, subst, append-nil, codes, arith, starts_with, prefix_len, length-take, length-drop, nat_eq, Word, Row, in_front, lines_of, code_of, words_of, with_row, rows_from, without_mark, rows_of, length-words_of, Step, Spawn, All, What, Item, Scope, first_scope, after, SpellsFuture, EachSpells, SpellsFutures, Spells, MayStand, MayName, RowsSpellFrom, RowsSpell, IsInside, kind_names, state_names, variables_from, root_names, steps_ahead, IsShortStep, IsShort, EachIsShort, Fit}
 use Rattle.std.proofs.Common.{append_assoc, length-append}
 use Rattle.task_lines.specs.declared.item.What.TheVariants as what
-use Rattle.task_reader.specs.Names.{kind_names, state_names}
-use Rattle.task_reader.specs.Program.{variables_from}
-use Rattle.task_reader.specs.Fits.{root_names, steps_ahead, IsShortStep, IsShort, EachIsShort, Fit}
-use Rattle.task_reader.proofs.Stands.{IsInKind, no-outside, kind-behind}
+use Rattle.task_reader.proofs.Stands.{no-outside, kind-behind}
 
 -- ---- the words of a row are at most half as many as the bytes of the text
 
@@ -119,8 +116,8 @@ variables-fit s (row ∷ rows) (item ∷ items) h l = variables-go s item.line i
 variables-fit s [] (item ∷ items) h l = absurd h
 variables-fit s (row ∷ rows) [] h l = absurd h
 
-states-go : (s : Scope) (line : ℕ) (w : What) (items : List Item) → MayStand s w → IsInKind s.place → length s.states ≤ 32
-    → (IsInKind (after s w).place → length (after s w).states ≤ 32 → length (after s w).states + length (state_names items) ≤ 32)
+states-go : (s : Scope) (line : ℕ) (w : What) (items : List Item) → MayStand s w → IsInside s.place → length s.states ≤ 32
+    → (IsInside (after s w).place → length (after s w).states ≤ 32 → length (after s w).states + length (state_names items) ≤ 32)
     → let item : Item = record { line = line; what = w } in length s.states + length (state_names (item ∷ items)) ≤ 32
 states-go s line (what.Kind name arguments) items m k l more = absurd (no-outside s.place k m.0)
 states-go s line (what.Root name kind arguments behind priority) items m k l more = absurd (no-outside s.place k m.0)
@@ -130,7 +127,7 @@ states-go s line (what.State name holds settled) items m k l more =
 states-go s line (what.Step step) items m k l more = more (kind-behind step) l
 states-go s line what.End items m k l more = omega (arith, l)
 
-states-fit : (s : Scope) (rows : List Row) (items : List Item) → RowsSpellFrom s rows items → IsInKind s.place → length s.states ≤ 32
+states-fit : (s : Scope) (rows : List Row) (items : List Item) → RowsSpellFrom s rows items → IsInside s.place → length s.states ≤ 32
     → length s.states + length (state_names items) ≤ 32
 states-fit s [] [] h k l = omega arith
 states-fit s (row ∷ rows) (item ∷ items) h k l = states-go s item.line item.what items h.2 k l (states-fit (after s item.what) rows items h.3)

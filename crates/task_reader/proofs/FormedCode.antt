@@ -1,11 +1,7 @@
 -- The code of a state: its instructions, their labels, and how it is left.
-use Rattle.task_reader.proofs.Vocabulary.{◌≡◌, ℕ, zero, suc, ◌+◌, ◌≤◌, add-one, Bool, true, false, ◌||◌, cond, Option, Some, List, [], ◌∷◌, ◌++◌, Ok, length, slice_get, refl, sym, ◌∙◌, ap, ◌⊎◌, inl, inr, subst, arith, append-nil, option_map, same_bytes, AllDiffer, IsFormedInstr, IsLabel, Leaves, Ends, IsLabelAhead, Instr, Line, State, Kind, Program, differ-snoc, is_among, Step, Goto, Label, Again, Done, What, Item, Place, Head, Code, Ended, Scope, after, place_behind, MayBegin, IsInState}
+use Rattle.task_reader.proofs.Vocabulary.{◌≡◌, ℕ, zero, suc, ◌+◌, ◌≤◌, add-one, Bool, true, false, ◌||◌, cond, Option, Some, List, [], ◌∷◌, ◌++◌, Ok, length, slice_get, refl, sym, ◌∙◌, ap, ◌⊎◌, inl, inr, subst, arith, append-nil, option_map, same_bytes, AllDiffer, IsFormedInstr, IsLabel, Leaves, Ends, IsLabelAhead, Instr, Line, State, Kind, Program, differ-snoc, is_among, Step, Goto, Label, Again, Done, What, Item, Place, Head, Code, Ended, Scope, after, place_behind, MayBegin, IsInState, step_uses, kind_names, state_names, label_names, known_at, uses_known, names_known, Positions, steps_to, instr_of, code_from}
 use Rattle.std.proofs.lemmas.List.{append_assoc}
 use Rattle.task_lines.specs.declared.item.What.TheVariants as what
-use Rattle.task_reader.specs.Uses.{step_uses}
-use Rattle.task_reader.specs.Names.{kind_names, state_names, label_names, known_at, uses_known, names_known}
-use Rattle.task_reader.specs.declared.positions.Positions.{Positions}
-use Rattle.task_reader.specs.Program.{steps_to, instr_of, code_from}
 use Rattle.task_reader.proofs.Known.{both-known}
 use Rattle.task_reader.proofs.FormedSteps.{IsFor, known_for, step-formed}
 use Rattle.task_reader.proofs.Stands.{Stand, item_at, new-absent}
@@ -138,7 +134,7 @@ abbrev CodeEnds : Positions → List Item → Type 0
 CodeEnds positions items = (s : Scope) (at : ℕ) → Stand s items → IsInState s.place
     → ((s.place ≡ Ended) × (code_from positions at items ≡ [])) ⊎ EndsCode (code_from positions at items)
 
-state-behind : (step : Step) → IsInState (place_behind step)
+pub state-behind : (step : Step) → IsInState (place_behind step)
 state-behind (Goto target) = tt
 state-behind (Again target behind priority) = tt
 state-behind (Done value) = tt

@@ -1,11 +1,8 @@
 -- The kinds of a program are well formed where their names are known.
-use Rattle.task_reader.proofs.Vocabulary.{◌≡◌, ℕ, ◌≤◌, List, [], ◌∷◌, ◌++◌, Ok, map, length, refl, sym, ◌∙◌, ap, subst, arith, append-nil, length-map, IsName, AllDiffer, Each, IsFormedKind, Sort, Variable, State, Program, each-nil, each-cons, each-append, Word, What, Item, Scope, after, EachSpells, SpellsName, SpellsFuture, SpellsVariable}
+use Rattle.task_reader.proofs.Vocabulary.{◌≡◌, ℕ, ◌≤◌, List, [], ◌∷◌, ◌++◌, Ok, map, length, refl, sym, ◌∙◌, ap, subst, arith, append-nil, length-map, IsName, AllDiffer, Each, IsFormedKind, Sort, Variable, State, Program, each-nil, each-cons, each-append, Word, What, Item, Scope, after, EachSpells, SpellsName, SpellsFuture, SpellsVariable, kind_names, state_names, known_at, uses_known, line_known, names_known, Positions, states_from, variables_from, kind_of, kinds_from}
 use Rattle.std.proofs.lemmas.List.{append_assoc, length-append}
 use Rattle.task_syntax.specs.declared.program.Sort.TheVariants as sort
 use Rattle.task_lines.specs.declared.item.What.TheVariants as what
-use Rattle.task_reader.specs.Names.{kind_names, state_names, known_at, uses_known, line_known, names_known}
-use Rattle.task_reader.specs.declared.positions.Positions.{Positions}
-use Rattle.task_reader.specs.Program.{states_from, variables_from, kind_of, kinds_from}
 use Rattle.task_reader.proofs.Known.{both-known}
 use Rattle.task_reader.proofs.FormedSteps.{IsFor}
 use Rattle.task_reader.proofs.Stands.{Stand, item_at, AreNames, no-names, state-names, names-of-states}

@@ -1,11 +1,8 @@
 -- The roots of a program are well formed where their names are known.
-use Rattle.task_reader.proofs.Vocabulary.{◌≡◌, ℕ, zero, suc, ◌+◌, ◌<◌, true, Option, Some, None, List, [], ◌∷◌, ◌++◌, Ok, map, length, slice_get, sym, subst, arith, IfSome, option_map, length-map, Each, IsFormedRootArgument, IsFormedRoot, Root, Program, Priority, each-map, each-nil, each-cons, Word, is_among, RootTerm, What, Item, Scope, after, EachSpells, SpellsRootTerm}
+use Rattle.task_reader.proofs.Vocabulary.{◌≡◌, ℕ, zero, suc, ◌+◌, ◌<◌, true, Option, Some, None, List, [], ◌∷◌, ◌++◌, Ok, map, length, slice_get, sym, subst, arith, IfSome, option_map, length-map, Each, IsFormedRootArgument, IsFormedRoot, Root, Program, Priority, each-map, each-nil, each-cons, Word, is_among, RootTerm, What, Item, Scope, after, EachSpells, SpellsRootTerm, UsesRoot, root_term_use, behind_uses, root_uses, Known, kind_names, is_given, known_at, line_known, names_known, place_of, root_argument_of, root_of, roots_from}
 use Rattle.std.proofs.lemmas.List.{length-append}
 use Rattle.task_lines.specs.declared.item.RootTerm.TheVariants as root_term
 use Rattle.task_lines.specs.declared.item.What.TheVariants as what
-use Rattle.task_reader.specs.Uses.{UsesRoot, root_term_use, behind_uses, root_uses}
-use Rattle.task_reader.specs.Names.{Known, kind_names, is_given, known_at, line_known, names_known}
-use Rattle.task_reader.specs.Program.{place_of, root_argument_of, root_of, roots_from}
 use Rattle.task_reader.proofs.Places.{place-within}
 use Rattle.task_reader.proofs.Known.{AllGiven, both-known, all-given, given-parts}
 use Rattle.task_reader.proofs.FormedSteps.{number-fits}

@@ -1,15 +1,11 @@
 -- The states of a kind are well formed where their names are known.
-use Rattle.task_reader.proofs.Vocabulary.{◌≡◌, ℕ, suc, ◌+◌, ◌<◌, add-one, true, Option, Some, List, [], ◌∷◌, ◌++◌, Ok, map, length, slice_get, refl, sym, ◌∙◌, ap, inl, inr, subst, arith, append-nil, option_map, AllDiffer, Each, instr_at, IsFormedInstr, IsFormedState, IsLabel, Leaves, Future, Variable, Instr, Line, State, Kind, Program, differ-nil, differ-map, each-nil, each-cons, Step, Goto, Label, Again, Done, What, Item, Place, Outside, Head, Code, Ended, Scope, has_variable, after, place_behind, IsInState, MayFollow}
+use Rattle.task_reader.proofs.Vocabulary.{◌≡◌, ℕ, suc, ◌+◌, ◌<◌, add-one, true, Option, Some, List, [], ◌∷◌, ◌++◌, Ok, map, length, slice_get, refl, sym, ◌∙◌, ap, inl, inr, subst, arith, append-nil, option_map, AllDiffer, Each, instr_at, IsFormedInstr, IsFormedState, IsLabel, Leaves, Future, Variable, Instr, Line, State, Kind, Program, differ-nil, differ-map, each-nil, each-cons, Step, Goto, Label, Again, Done, What, Item, Place, Outside, Head, Code, Ended, Scope, has_variable, after, place_behind, IsInState, MayFollow, IsInside, UsesFuture, futures_uses, state_uses, Known, kind_names, state_names, known_at, uses_known, line_known, names_known, Positions, future_place, code_from, state_of, states_from, variables_from}
 use Rattle.std.proofs.lemmas.List.{append_assoc}
 use Rattle.task_lines.specs.declared.item.What.TheVariants as what
-use Rattle.task_reader.specs.Uses.{UsesFuture, futures_uses, state_uses}
-use Rattle.task_reader.specs.Names.{Known, kind_names, state_names, known_at, uses_known, line_known, names_known}
-use Rattle.task_reader.specs.declared.positions.Positions.{Positions}
-use Rattle.task_reader.specs.Program.{future_place, code_from, state_of, states_from, variables_from}
 use Rattle.task_reader.proofs.Places.{future-place-same}
 use Rattle.task_reader.proofs.Known.{AllGiven, both-known, all-given, given-parts, each-given, futures-given, same-futures}
 use Rattle.task_reader.proofs.FormedSteps.{IsFor, known_for, futures-formed}
-use Rattle.task_reader.proofs.Stands.{Stand, item_at, IsInKind, no-outside, kind-behind, names-of-labels}
+use Rattle.task_reader.proofs.Stands.{Stand, item_at, no-outside, kind-behind, names-of-labels}
 use Rattle.task_reader.proofs.FormedCode.{line-at, code-fits, labels-differ, code-left, code-ends, instrs-formed}
 
 -- the futures of a list of which each is a variable differ in place as they differ in name
@@ -93,7 +89,7 @@ no-head (Done value) e = cc
 no-head step e = cc
 
 abbrev StatesFormed : Positions → Program → Kind → List Item → List Item → Type 0
-StatesFormed positions p kind all items = (s : Scope) → IsInKind s.place → Stand s items → names_known all s items ≡ Ok tt
+StatesFormed positions p kind all items = (s : Scope) → IsInside s.place → Stand s items → names_known all s items ≡ Ok tt
     → s.variables ++ variables_from items ≡ positions.variables → s.states ++ state_names items ≡ positions.states
     → Each (states_from positions items) (IsFormedState p kind)
 
@@ -133,7 +129,7 @@ states-formed positions p kind for all kinds (item ∷ items) s in_kind stand kn
 abbrev HasState : Positions → List Item → Type 0
 HasState positions items = (s : Scope) → s.place ≡ Head → Stand s items → 0 < length (states_from positions items)
 
-no-step : (place : Place) (step : Step) → place ≡ Head → MayFollow place step → ⊥
+pub no-step : (place : Place) (step : Step) → place ≡ Head → MayFollow place step → ⊥
 no-step place (Label name) e may = subst IsInState e may
 no-step place step e may = let f : Code ≡ Head = sym may ∙ e in cc
 

@@ -1,12 +1,8 @@
 -- An instruction is well formed where its names are known.
-use Rattle.task_reader.proofs.Vocabulary.{◌≡◌, ◌≢◌, ℕ, ◌<◌, ◌≤◌, ◌^◌, true, ◌&&◌, Option, Some, None, List, [], ◌∷◌, Ok, map, length, refl, sym, subst, arith, IfSome, nat_lt, option_map, list_all, digits_value, ltb-true, length-map, is_between, is_digit, Each, IsNumberAt, IsFutureAt, IsFormedOperand, IsFormedArgument, IsFormedInstr, IsLabelAhead, Number, Future, State, Kind, Program, both, each-map, each-nil, each-cons, Word, is_among, Term, Passed, Step, Set, Math, If, Goto, Label, Cell, Rows, Spawn, All, Copy, Drop, Get, Again, Done, Scope, has_variable, SpellsNumber, SpellsTerm, SpellsPassed, Spells, EachSpells, MayName}
+use Rattle.task_reader.proofs.Vocabulary.{◌≡◌, ◌≢◌, ℕ, ◌<◌, ◌≤◌, ◌^◌, true, ◌&&◌, Option, Some, None, List, [], ◌∷◌, Ok, map, length, refl, sym, subst, arith, IfSome, nat_lt, option_map, list_all, digits_value, ltb-true, length-map, is_between, is_digit, Each, IsNumberAt, IsFutureAt, IsFormedOperand, IsFormedArgument, IsFormedInstr, IsLabelAhead, Number, Future, State, Kind, Program, both, each-map, each-nil, each-cons, Word, is_among, Term, Passed, Step, Set, Math, If, Goto, Label, Cell, Rows, Spawn, All, Copy, Drop, Get, Again, Done, Scope, has_variable, SpellsNumber, SpellsTerm, SpellsPassed, Spells, EachSpells, MayName, UsesFuture, term_use, passed_use, behind_uses, step_uses, Known, is_given, uses_known, Positions, place_of, number_place, future_place, operand_of, argument_of, instr_of}
 use Rattle.task_lines.specs.declared.step.Term.TheVariants as term
 use Rattle.task_lines.specs.declared.step.Passed.TheVariants as passed
 use Rattle.task_lines.specs.declared.item.What.TheVariants as what
-use Rattle.task_reader.specs.Uses.{UsesFuture, term_use, passed_use, behind_uses, step_uses}
-use Rattle.task_reader.specs.Names.{Known, is_given, uses_known}
-use Rattle.task_reader.specs.declared.positions.Positions.{Positions}
-use Rattle.task_reader.specs.Program.{place_of, number_place, future_place, operand_of, argument_of, instr_of}
 use Rattle.task_reader.proofs.Places.{place-within, number-at, future-at}
 use Rattle.task_reader.proofs.Known.{AllGiven, all-given, given-parts, each-given}
 

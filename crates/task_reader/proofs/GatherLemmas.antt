@@ -1,12 +1,7 @@
 -- A list that is gathered item by item.
-use Rattle.task_reader.proofs.Vocabulary.{◌≡◌, ◌≢◌, ◌≤◌, ◌<◌, ℕ, ◌+◌, true, false, List, [], ◌∷◌, ◌++◌, length, get_or, drop, refl, ap, sym, ◌∙◌, append-nil, arith, drop_more, drop_all, Line, Step, What, Item}
+use Rattle.task_reader.proofs.Vocabulary.{◌≡◌, ◌≢◌, ◌≤◌, ◌<◌, ℕ, ◌+◌, true, false, List, [], ◌∷◌, ◌++◌, length, get_or, drop, refl, ap, sym, ◌∙◌, append-nil, arith, drop_more, drop_all, Line, Step, What, Item, Positions, steps_to, instr_of, code_from, states_from, kinds_from, roots_from, steps_ahead, root_names, is_inside, state_at, kind_at, root_at, root_name_at}
 use Rattle.std.proofs.Common.{append_assoc, length-append}
 use Rattle.task_lines.specs.declared.item.What.TheVariants as what
-use Rattle.task_reader.specs.declared.positions.Positions.{Positions}
-use Rattle.task_reader.specs.Program.{steps_to, instr_of, code_from, states_from, kinds_from, roots_from}
-use Rattle.task_reader.specs.Fits.{steps_ahead, root_names}
-use Rattle.task_reader.specs.Ahead.{is_inside}
-use Rattle.task_reader.specs.Parts.{state_at, kind_at, root_at, root_name_at}
 
 -- the rest of a list, with its first member in front
 pub rest-at : {X : Type 0} (xs : List X) (at : ℕ) (x : X) → at < length xs → x ≡ get_or xs at x → drop at xs ≡ x ∷ drop (at + 1) xs

@@ -1,9 +1,6 @@
 -- What is known of the names of a line where none is unknown.
-use Rattle.task_reader.proofs.Vocabulary.{◌≡◌, ℕ, ◌+◌, Bool, true, false, Option, Some, None, List, [], ◌∷◌, ◌++◌, map, Result, Ok, Err, refl, ap, ◌∙◌, subst, IfSome, Each, each-nil, each-cons, Future, Fault, has_variable}
+use Rattle.task_reader.proofs.Vocabulary.{◌≡◌, ℕ, ◌+◌, Bool, true, false, Option, Some, None, List, [], ◌∷◌, ◌++◌, map, Result, Ok, Err, refl, ap, ◌∙◌, subst, IfSome, Each, each-nil, each-cons, Future, Fault, has_variable, Use, behind_uses, futures_uses, UsesFuture, Known, is_given, known, uses_known}
 use Rattle.task_text.specs.Fault.{◌>>◌}
-use Rattle.task_reader.specs.Uses.{Use, behind_uses, futures_uses}
-use Rattle.task_reader.specs.Uses.{UsesFuture}
-use Rattle.task_reader.specs.Names.{Known, is_given, known, uses_known}
 
 -- both are in order where they are so one after the other
 pub both-known : (a b : Result (Unit {0}) Fault) → a >> b ≡ Ok tt → (a ≡ Ok tt) × (b ≡ Ok tt)

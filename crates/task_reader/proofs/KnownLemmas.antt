@@ -1,13 +1,9 @@
 -- The first unknown name of a list is where its look-up stops.
-use Rattle.task_reader.proofs.Vocabulary.{◌≡◌, ◌≢◌, ℕ, suc, ◌+◌, Bool, true, false, cond, not, nat_lt, List, [], ◌∷◌, ◌++◌, map, length, Some, None, Result, Ok, Err, refl, ap, sym, ◌∙◌, arith, position, position_or_len, nat_tests, Fault, UnknownName, fault_at, Future, has_variable, Term, Passed, RootTerm}
+use Rattle.task_reader.proofs.Vocabulary.{◌≡◌, ◌≢◌, ℕ, suc, ◌+◌, Bool, true, false, cond, not, nat_lt, List, [], ◌∷◌, ◌++◌, map, length, Some, None, Result, Ok, Err, refl, ap, sym, ◌∙◌, arith, position, position_or_len, nat_tests, Fault, UnknownName, fault_at, Future, has_variable, Term, Passed, RootTerm, Use, Plain, UsesFuture, term_use, passed_use, root_term_use, futures_uses, Known, is_given, known, uses_known, WordPlace, behind, unknown_at, is_known_term, is_known_passed, is_known_root_term}
 use Rattle.task_text.specs.Fault.{◌>>◌}
 use Rattle.task_lines.specs.declared.step.Term.TheVariants as term
 use Rattle.task_lines.specs.declared.step.Passed.TheVariants as passed
 use Rattle.task_lines.specs.declared.item.RootTerm.TheVariants as root_term
-use Rattle.task_reader.specs.Uses.{Use, Plain, UsesFuture, term_use, passed_use, root_term_use, futures_uses}
-use Rattle.task_reader.specs.Names.{Known, is_given, known, uses_known}
-use Rattle.task_reader.specs.declared.unknown.WordPlace.{WordPlace}
-use Rattle.task_reader.specs.Finding.{behind, unknown_at, is_known_term, is_known_passed, is_known_root_term}
 
 -- what a look-up of a list answers, where so many names are known in front
 abbrev stops_at : ℕ → ℕ → ℕ → ℕ → Result (Unit {0}) Fault

@@ -1,10 +1,7 @@
 -- No two parts of a program stand at one line.
-use Rattle.task_reader.proofs.Vocabulary.{◌≡◌, ℕ, zero, suc, ◌+◌, ◌<◌, ◌≤◌, Bool, true, false, cond, nat_eq, Some, List, [], ◌∷◌, ◌++◌, map, slice_get, refl, sym, ap, subst, arith, eqb-true, eq-eqb, flat_map, AllDiffer, lines_of_state, lines_of_kind, Root, Line, differ-nil, differ-cons, Word, Row, words_of, code_of, with_row, rows_from, What, Item, Scope, after, RowsSpellFrom}
+use Rattle.task_reader.proofs.Vocabulary.{◌≡◌, ℕ, zero, suc, ◌+◌, ◌<◌, ◌≤◌, Bool, true, false, cond, nat_eq, Some, List, [], ◌∷◌, ◌++◌, map, slice_get, refl, sym, ap, subst, arith, eqb-true, eq-eqb, flat_map, AllDiffer, lines_of_state, lines_of_kind, Root, Line, differ-nil, differ-cons, Word, Row, words_of, code_of, with_row, rows_from, What, Item, Scope, after, RowsSpellFrom, IsInside, state_names, Positions, code_from, states_from, variables_from, kind_of, kinds_from, root_of, roots_from}
 use Rattle.task_lines.specs.declared.item.What.TheVariants as what
-use Rattle.task_reader.specs.Names.{state_names}
-use Rattle.task_reader.specs.declared.positions.Positions.{Positions}
-use Rattle.task_reader.specs.Program.{code_from, states_from, variables_from, kind_of, kinds_from, root_of, roots_from}
-use Rattle.task_reader.proofs.Stands.{Stand, item_at, IsInKind, no-outside, kind-behind}
+use Rattle.task_reader.proofs.Stands.{Stand, item_at, no-outside, kind-behind}
 
 -- ---- how often a number stands in a list
 
@@ -95,7 +92,7 @@ root_lines kinds earlier items = map (λ (r : Root). r.line) (roots_from kinds e
 
 pub record LinesCount (x : ℕ) (kinds : List (List ℕ)) (s : Scope) (items : List Item) : Type 0 where
   pub outside : (earlier : List (List ℕ)) → times x (kind_lines kinds items) + times x (root_lines kinds earlier items) ≤ times x (item_lines items)
-  pub in_kind : IsInKind s.place → (positions : Positions) (at : ℕ) (earlier : List (List ℕ))
+  pub in_kind : IsInside s.place → (positions : Positions) (at : ℕ) (earlier : List (List ℕ))
       → times x (code_lines positions at items) + times x (state_lines positions items) + times x (kind_lines kinds items) + times x (root_lines kinds earlier items) ≤ times x (item_lines items)
 
 abbrev Counted : ℕ → List (List ℕ) → List Item → Type 0

@@ -1,9 +1,6 @@
 -- The first name that no line gives is what the reading gives.
-use Rattle.task_reader.proofs.Vocabulary.{◌≡◌, ◌<◌, ℕ, zero, suc, ◌+◌, true, false, Some, List, [], ◌∷◌, ◌++◌, length, slice_get, Err, refl, sym, ◌∙◌, ap, arith, UnknownName, Fault, fault_at, rows_of, Item, Scope, first_scope, after}
+use Rattle.task_reader.proofs.Vocabulary.{◌≡◌, ◌<◌, ℕ, zero, suc, ◌+◌, true, false, Some, List, [], ◌∷◌, ◌++◌, length, slice_get, Err, refl, sym, ◌∙◌, ap, arith, UnknownName, Fault, fault_at, rows_of, Item, Scope, first_scope, after, Use, line_uses, Known, is_given, known, known_at, uses_known, line_known, names_known, scope_behind, UsesAt, IsFirstUnknown}
 use Rattle.task_text.specs.Fault.{◌>>◌}
-use Rattle.task_reader.specs.Uses.{Use, line_uses}
-use Rattle.task_reader.specs.Names.{Known, is_given, known, known_at, uses_known, line_known, names_known}
-use Rattle.task_reader.specs.Faults.{scope_behind, UsesAt, IsFirstUnknown}
 use Rattle.task_reader.proofs.Known.{AllGiven, given-known}
 use Rattle.task_reader.proofs.FirstUnknown.{row-behind-header}
 use Rattle.task_reader.proofs.RowsTold.{same-fault}

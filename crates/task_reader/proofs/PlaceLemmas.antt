@@ -1,6 +1,5 @@
 -- The place of a name in a list.
-use Rattle.task_reader.proofs.Vocabulary.{◌≡◌, ◌≤◌, ℕ, suc, ◌+◌, Bool, true, false, cond, not, List, [], ◌∷◌, length, unwrap_or, refl, arith, position, position_or_len, nat_tests}
-use Rattle.task_reader.specs.Program.{place_where}
+use Rattle.task_reader.proofs.Vocabulary.{◌≡◌, ◌≤◌, ℕ, suc, ◌+◌, Bool, true, false, cond, not, List, [], ◌∷◌, length, unwrap_or, refl, arith, position, position_or_len, nat_tests, place_where}
 
 le-step : (b : Bool) (m n : ℕ) → m ≤ n → cond b 0 (m + 1) ≤ suc n
 le-step true m n h = omega arith

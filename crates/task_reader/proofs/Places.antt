@@ -1,6 +1,5 @@
 -- The place of a name that is given.
-use Rattle.task_reader.proofs.Vocabulary.{◌≡◌, ℕ, ◌+◌, ◌<◌, add-one, Bool, true, false, ◌||◌, cond, Some, List, [], ◌∷◌, length, slice_get, refl, sym, ◌∙◌, ap, slice_get_within, list_any, same_text, same_bytes, IsNumberAt, IsFutureAt, Sort, Number, Future, Variable, Kind, both, is_among, same_sort, is_variable, has_variable}
-use Rattle.task_reader.specs.Program.{place_where, place_of, number_place, future_place}
+use Rattle.task_reader.proofs.Vocabulary.{◌≡◌, ℕ, ◌+◌, ◌<◌, add-one, Bool, true, false, ◌||◌, cond, Some, List, [], ◌∷◌, length, slice_get, refl, sym, ◌∙◌, ap, slice_get_within, list_any, same_text, same_bytes, IsNumberAt, IsFutureAt, Sort, Number, Future, Variable, Kind, both, is_among, same_sort, is_variable, has_variable, place_where, place_of, number_place, future_place}
 
 place-step : {A : Type 0} (test : A → Bool) (a : A) (more : List A) (b : Bool) → test a ≡ b
     → (list_any test more ≡ true → (x : A) × (slice_get more (place_where test more) ≡ Some x) × (test x ≡ true))

@@ -1,8 +1,5 @@
 -- A program is read where a text spells it, and nowhere else, and is well formed.
-use Rattle.task_reader.proofs.Vocabulary.{◌≡◌, ℕ, List, Ok, ap, sym, IsWellFormed, Program, first_scope, items_of, goes-on, items_of-accepted, result-parts, same-answer, items_of-spelled}
-use Rattle.task_reader.specs.Names.{names_known}
-use Rattle.task_reader.specs.Program.{program_of}
-use Rattle.task_reader.specs.Read.{program_in, Spelled}
+use Rattle.task_reader.proofs.Vocabulary.{◌≡◌, ℕ, List, Ok, ap, sym, IsWellFormed, Program, first_scope, items_of, goes-on, items_of-accepted, result-parts, same-answer, items_of-spelled, names_known, program_of, program_in, Spelled}
 use Rattle.task_reader.proofs.Formed.{Spelled-formed}
 
 pub program_in-spelled : (text : List ℕ) (p : Program) → program_in text ≡ Ok p → Spelled text p

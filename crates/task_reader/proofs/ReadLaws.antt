@@ -1,9 +1,6 @@
 -- What the reading of a text means for the answer.
-use Rattle.task_reader.proofs.Vocabulary.{◌≡◌, ℕ, ◌<◌, ◌^◌, List, length, Result, Ok, Err, refl, sym, ◌∙◌, ap, Program, Fault, TextError, Gives, number_of, Item, items_of, items_of-spelled}
+use Rattle.task_reader.proofs.Vocabulary.{◌≡◌, ℕ, ◌<◌, ◌^◌, List, length, Result, Ok, Err, refl, sym, ◌∙◌, ap, Program, Fault, TextError, Gives, number_of, Item, items_of, items_of-spelled, Fit, program_in, GivesProgram, Spelled, Answers, error_of, IsFirstFault, TellsFirst, Tells}
 use Rattle.task_text.specs.declared.fault.TextError.TheVariants as text_error
-use Rattle.task_reader.specs.Fits.{Fit}
-use Rattle.task_reader.specs.Read.{program_in, GivesProgram, Spelled, Answers, error_of}
-use Rattle.task_reader.specs.Faults.{IsFirstFault, TellsFirst, Tells}
 use Rattle.task_reader.proofs.Fitting.{items_fit}
 use Rattle.task_reader.proofs.FaultsTold.{program-first, first-told}
 use Rattle.task_reader.proofs.Read.{program_in-spelled, program_in-formed, spelled-accepts}

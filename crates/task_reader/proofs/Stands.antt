@@ -1,10 +1,7 @@
 -- The names that items give, where each item may stand behind those before it.
-use Rattle.task_reader.proofs.Vocabulary.{◌≡◌, ℕ, zero, suc, ◌+◌, ◌<◌, ◌≤◌, Some, List, [], ◌∷◌, ◌++◌, map, length, slice_get, refl, sym, ◌∙◌, ap, subst, arith, append-nil, AllDiffer, labels_of, Root, Kind, State, Line, differ-nil, differ-snoc, Step, Goto, Label, Again, Done, What, Item, Place, Outside, Scope, after, place_behind, IsNew, CanBeSpelled, MayStand}
+use Rattle.task_reader.proofs.Vocabulary.{◌≡◌, ℕ, zero, suc, ◌+◌, ◌<◌, ◌≤◌, Some, List, [], ◌∷◌, ◌++◌, map, length, slice_get, refl, sym, ◌∙◌, ap, subst, arith, append-nil, AllDiffer, labels_of, Root, Kind, State, Line, differ-nil, differ-snoc, Step, Goto, Label, Again, Done, What, Item, Place, Outside, Scope, after, place_behind, IsNew, CanBeSpelled, MayStand, IsInside, root_names, kind_names, state_names, label_names, step_label, Positions, instr_of, code_from, states_from, kind_of, kinds_from, root_of, roots_from}
 use Rattle.std.proofs.lemmas.List.{append_assoc, length-append}
 use Rattle.task_lines.specs.declared.item.What.TheVariants as what
-use Rattle.task_reader.specs.Names.{kind_names, state_names, label_names, step_label}
-use Rattle.task_reader.specs.declared.positions.Positions.{Positions}
-use Rattle.task_reader.specs.Program.{instr_of, code_from, states_from, kind_of, kinds_from, root_of, roots_from}
 
 -- some words spell each item, which may stand behind those before it, and the last one closes what is open
 abbrev pub Stand : Scope → List Item → Type 0
@@ -15,14 +12,10 @@ abbrev pub item_at : ℕ → What → Item
 item_at line what = record { line = line; what = what }
 
 -- in a kind
-abbrev pub IsInKind : Place → Type 0
-IsInKind Outside = ⊥
-IsInKind _ = Unit {0}
+pub no-outside : (place : Place) → IsInside place → place ≡ Outside → ⊥
+no-outside place k e = subst IsInside e k
 
-pub no-outside : (place : Place) → IsInKind place → place ≡ Outside → ⊥
-no-outside place k e = subst IsInKind e k
-
-pub kind-behind : (step : Step) → IsInKind (place_behind step)
+pub kind-behind : (step : Step) → IsInside (place_behind step)
 kind-behind (Goto target) = tt
 kind-behind (Again target behind priority) = tt
 kind-behind (Done value) = tt
@@ -66,10 +59,6 @@ kind-names (item ∷ items) s stand are = kind-names-step item.line item.what it
 
 -- ---- roots
 
-abbrev pub root_names : List Item → List (List ℕ)
-root_names [] = []
-root_names (item ∷ items) = elim item.what [ what.Root name kind arguments behind priority ↦ name ∷ root_names items | _ ↦ root_names items ]
-
 abbrev RootNames : List Item → Type 0
 RootNames items = (s : Scope) → Stand s items → AreNames 16 s.roots → AreNames 16 (s.roots ++ root_names items)
 
@@ -86,7 +75,7 @@ root-names (item ∷ items) s stand are = root-names-step item.line item.what it
 -- ---- states of a kind
 
 abbrev StateNames : List Item → Type 0
-StateNames items = (s : Scope) → IsInKind s.place → Stand s items → AreNames 32 s.states → AreNames 32 (s.states ++ state_names items)
+StateNames items = (s : Scope) → IsInside s.place → Stand s items → AreNames 32 s.states → AreNames 32 (s.states ++ state_names items)
 
 state-names-step : (line : ℕ) (w : What) (items : List Item) → StateNames items → StateNames (item_at line w ∷ items)
 state-names-step line (what.Kind name arguments) items further s in_kind stand are = absurd (no-outside s.place in_kind stand.1.0)

@@ -1,10 +1,9 @@
 -- The words that spell a line spell the names that it uses, each at its place.
-use Rattle.task_reader.proofs.Vocabulary.{◌≡◌, ℕ, zero, suc, Option, Some, None, List, [], ◌∷◌, ◌++◌, map, slice_get, refl, sym, ap, subst, codes, Word, Term, Passed, Step, Set, Math, If, Goto, Label, Cell, Rows, Spawn, All, Copy, Drop, Get, Again, Done, RootTerm, What, SpellsTerm, SpellsPassed, SpellsRootTerm, SpellsFuture, EachSpells, SpellsFutures, SpellsBehind, Spells}
+use Rattle.task_reader.proofs.Vocabulary.{◌≡◌, ℕ, zero, suc, Option, Some, None, List, [], ◌∷◌, ◌++◌, map, slice_get, refl, sym, ap, subst, codes, Word, Term, Passed, Step, Set, Math, If, Goto, Label, Cell, Rows, Spawn, All, Copy, Drop, Get, Again, Done, RootTerm, What, SpellsTerm, SpellsPassed, SpellsRootTerm, SpellsFuture, EachSpells, SpellsFutures, SpellsBehind, Spells, Use, UsesFuture, UsesRoot, SpellsUse, term_use, passed_use, root_term_use, behind_uses, futures_uses, step_uses, line_uses}
 use Rattle.task_lines.specs.declared.step.Term.TheVariants as term
 use Rattle.task_lines.specs.declared.step.Passed.TheVariants as passed
 use Rattle.task_lines.specs.declared.item.RootTerm.TheVariants as root_term
 use Rattle.task_lines.specs.declared.item.What.TheVariants as what
-use Rattle.task_reader.specs.Uses.{Use, UsesFuture, UsesRoot, SpellsUse, term_use, passed_use, root_term_use, behind_uses, futures_uses, step_uses, line_uses}
 
 -- the words begin with one for each use, which spells it
 abbrev Covers : List Word → List Use → Type 0
@@ -18,7 +17,7 @@ pub record SpelledAt (words : List Word) (place : ℕ) (used : Use) : Type 0 whe
   pub stands : slice_get words place ≡ Some word
   pub spells : SpellsUse word used
 
-same-use : (one other : Use) → Some one ≡ Some other → one ≡ other
+pub same-use : (one other : Use) → Some one ≡ Some other → one ≡ other
 same-use one other e = cc
 
 covers-at : (words : List Word) (uses : List Use) → Covers words uses → (place : ℕ) (used : Use) → slice_get uses place ≡ Some used → SpelledAt words place used

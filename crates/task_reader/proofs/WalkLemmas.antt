@@ -1,10 +1,8 @@
 -- One item after the other.
-use Rattle.task_reader.proofs.Vocabulary.{◌≡◌, ◌≤◌, ◌<◌, ℕ, ◌+◌, List, [], ◌∷◌, length, get_or, drop, Ok, Err, refl, ap, subst, sym, ◌∙◌, arith, drop_more, drop_all, TextError, Gives, What, Item, Scope, after, Fault}
+use Rattle.task_reader.proofs.Vocabulary.{◌≡◌, ◌≤◌, ◌<◌, ℕ, ◌+◌, List, [], ◌∷◌, length, get_or, drop, Ok, Err, refl, ap, subst, sym, ◌∙◌, arith, drop_more, drop_all, TextError, Gives, What, Item, Scope, after, Fault, kind_names, line_known, known_among, known_at, names_known, IsShort, EachIsShort}
 use Rattle.task_text.specs.declared.fault.TextError.TheVariants as error
 use Rattle.task_text.specs.Fault.{◌>>◌}
 use Rattle.task_lines.specs.declared.item.What.TheVariants as what
-use Rattle.task_reader.specs.Names.{kind_names, line_known, known_among, known_at, names_known}
-use Rattle.task_reader.specs.Fits.{IsShort, EachIsShort}
 
 pub short-turn : (items : List Item) (at : ℕ) (item : Item) → at < length items → item ≡ get_or items at item → EachIsShort (drop at items)
     → IsShort item.what (drop (at + 1) items) × EachIsShort (drop (at + 1) items)

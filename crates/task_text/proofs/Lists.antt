@@ -1,11 +1,8 @@
 -- Lists of items that are read in a loop: one more item, an item at fault, and the end.
-use Rattle.std.proofs.Common.{◌≡◌, ℕ, ◌<◌, Bool, true, false, cond, List, [], ◌∷◌, ◌++◌, length, drop, Ok, Err, refl, sym, ◌∙◌, ap, arith}
+use Rattle.std.proofs.Common.{◌≡◌, ◌<◌, Bool, true, false, cond, List, [], ◌∷◌, ◌++◌, length, drop, Ok, Err, refl, sym, ◌∙◌, ap, arith}
 use Rattle.task_text.specs.declared.fault.Fault.{Fault}
 use Rattle.task_text.specs.Text.{Word}
-use Rattle.task_text.specs.Scan.{Scan, is_future, is_number, first_of, seen, moved, fault_here, Outcome, Parser, and_then, ◌<$>◌, take_word, need, read_name, read_number, read_future, each_along, each}
-use Rattle.task_text.specs.declared.fault.Cause.TheVariants.{BadName, BadNumber}
-use Rattle.task_syntax.specs.Names.{is_name}
-use Rattle.std.specs.Str.Parse.{digits_value}
+use Rattle.task_text.specs.Scan.{Scan, first_of, seen, moved, Parser, and_then, each_along, each}
 
 -- a loop over the words of a row ends
 pub moved-shorter : (test : Word → Bool) (s : Scan) → test [] ≡ false → test (seen s) ≡ true → length (moved s).left < length s.left
@@ -48,28 +45,3 @@ each-more {A} test item found s next a n t e m = by s.left t ∙ ap (λ left. ea
   by (word ∷ words) t =
       chosen test item found s word words true t
       ∙ ap (λ o. and_then o (λ a. each_along words test item (found ++ a ∷ []))) e
-
-same-next : {A : Type 0} (a b : A) (x y : Scan) → ◌≡◌ {A = Outcome A} (Ok (a, x)) (Ok (b, y)) → y ≡ x
-same-next {A} a b x y e = let p : ◌≡◌ {A = A × Scan} (a, x) (b, y) = cc in sym (ap (λ (q : A × Scan). q.1) p)
-
--- a name, a future or a number takes its word, and nothing more
-pub moves-read_name : (s next : Scan) (name : List ℕ) → read_name s ≡ Ok (name, next) → next ≡ moved s
-unfolding read_name need
-moves-read_name s next name e = by (is_name (seen s)) e where
-  by : (b : Bool) → and_then (cond {A = Outcome (Unit {0})} b (Ok (tt, s)) (Err (fault_here BadName s))) (λ u. take_word) ≡ Ok (name, next) → next ≡ moved s
-  by true e = same-next (seen s) name (moved s) next e
-  by false e = cc
-
-pub moves-read_future : (s next : Scan) (name : List ℕ) → read_future s ≡ Ok (name, next) → next ≡ moved s
-unfolding read_future need
-moves-read_future s next name e = by (is_future (seen s)) e where
-  by : (b : Bool) → and_then (cond {A = Outcome (Unit {0})} b (Ok (tt, s)) (Err (fault_here BadName s))) (λ u. (λ word. drop 1 word) <$> take_word) ≡ Ok (name, next) → next ≡ moved s
-  by true e = same-next (drop 1 (seen s)) name (moved s) next e
-  by false e = cc
-
-pub moves-read_number : (s next : Scan) (number : ℕ) → read_number s ≡ Ok (number, next) → next ≡ moved s
-unfolding read_number need
-moves-read_number s next number e = by (is_number (seen s)) e where
-  by : (b : Bool) → and_then (cond {A = Outcome (Unit {0})} b (Ok (tt, s)) (Err (fault_here BadNumber s))) (λ u. (λ word. digits_value 10 word) <$> take_word) ≡ Ok (number, next) → next ≡ moved s
-  by true e = same-next (digits_value 10 (seen s)) number (moved s) next e
-  by false e = cc

@@ -47,7 +47,7 @@ pub record ReadsWhole {A : Type 0} (p : Parser A) (row : Row) (a : A) : Type 0 w
   pub reads : p (start_of row) ≡ Ok (a, end)
   pub missing : is_missing (seen end) ≡ true
 
-same-answer : {A : Type 0} (a b : A) → ◌≡◌ {A = Result A Fault} (Ok a) (Ok b) → a ≡ b
+pub same-answer : {A : Type 0} (a b : A) → ◌≡◌ {A = Result A Fault} (Ok a) (Ok b) → a ≡ b
 same-answer a b e = cc
 
 with-scan : {A : Type 0} (o : Outcome A) (a : A) → without_scan o ≡ Ok a → (t : Scan) × (o ≡ Ok (a, t))

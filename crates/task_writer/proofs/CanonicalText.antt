@@ -1,12 +1,9 @@
 -- The text of a well-formed program is canonical.
-use Rattle.task_writer.proofs.Vocabulary.{◌≡◌, ◌≢◌, ℕ, true, false, List, [], ◌∷◌, ◌++◌, map, take, drop, refl, sym, ◌∙◌, ap, subst, arith, append_assoc, append-nil, codes, flat_map, join_with_byte, decimal_digit, IsWellFormed, MathOp, Line, Variable, State, Kind, Root, Program, Word, same-bytes, same_bytes, first_of, Step, What, Scope, first_scope, after, operation_word}
+use Rattle.task_writer.proofs.Vocabulary.{◌≡◌, ◌≢◌, ℕ, true, false, List, [], ◌∷◌, ◌++◌, map, take, drop, refl, sym, ◌∙◌, ap, subst, arith, append_assoc, append-nil, codes, flat_map, join_with_byte, decimal_digit, IsWellFormed, MathOp, Line, Variable, State, Kind, Root, Program, Word, same-bytes, same_bytes, first_of, Step, What, Scope, first_scope, after, operation_word, line_words, spaced, parted, line_text, header_words, text_of_lines, text_of, IsTidy, AllTidy, EachTidy, Opens, EachNext, IsCanonical}
 use Rattle.task_syntax.specs.declared.instr.MathOp.TheVariants as op
 use Rattle.task_lines.specs.declared.step.Step.TheVariants.{Set, Math, If, Goto, Label, Cell, Rows, Spawn, All, Copy, Drop, Get, Again, Done}
 use Rattle.task_lines.specs.declared.item.What.TheVariants as what
-use Rattle.task_writer.specs.Words.{line_words}
 use Rattle.task_writer.specs.Lines.{Names, kind_names, root_names, names_in, step_of, code_lines, state_lines, var_lines, kind_lines, root_line, lines_of_program}
-use Rattle.task_writer.specs.Text.{spaced, parted, line_text, header_words, text_of_lines, text_of}
-use Rattle.task_writer.specs.Canonical.{IsTidy, AllTidy, EachTidy, Opens, EachNext, IsCanonical}
 use Rattle.task_writer.proofs.PlainLines.{fixed-tidy, line-tidy, line-begun}
 use Rattle.task_writer.proofs.StandingCode.{Stands}
 use Rattle.task_writer.proofs.StandingKinds.{lines-stand}

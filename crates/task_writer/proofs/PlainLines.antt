@@ -1,17 +1,14 @@
 -- The words of a line that may be written are tidy.
-use Rattle.task_writer.proofs.Vocabulary.{◌≡◌, ◌≢◌, ℕ, ◌<◌, ◌≤◌, ◌^◌, Bool, true, false, not, ◌&&◌, ◌||◌, nat_le, nat_eq, Option, Some, None, List, [], ◌∷◌, ◌++◌, map, length, refl, sym, subst, ◌∙◌, ap, arith, inl, inr, codes, decimal, IfSome, list_all, leb-true, le-leb, eqb-true, is_between, is_letter, is_digit, is_name_byte, is_reserved, begins_with_letter, IsName, Sort, Variable, MathOp, Relation, Less, AtMost, Equal, Differs, Priority, High, Regular, Low, both, either, Word, begins_with_digit, Term, Passed, RootTerm, What, operation_word, between, all-pass, Part, GotoWord, AName, ANewName, ATarget, ATerm, ARelation, AFuture, KindVariables, MoreVariables, Arguments, RootArguments, Members, HeldFutures, SettledFutures, Predecessor, APriority, LastPriority, ARetry, Of, Values, entry}
+use Rattle.task_writer.proofs.Vocabulary.{◌≡◌, ◌≢◌, ℕ, ◌<◌, ◌≤◌, ◌^◌, Bool, true, false, not, ◌&&◌, ◌||◌, nat_le, nat_eq, Option, Some, None, List, [], ◌∷◌, ◌++◌, map, length, refl, sym, subst, ◌∙◌, ap, arith, inl, inr, codes, decimal, IfSome, list_all, le-leb, eqb-true, is_between, is_letter, is_digit, is_name_byte, is_reserved, begins_with_letter, IsName, Sort, Variable, MathOp, Relation, Less, AtMost, Equal, Differs, Priority, High, Regular, Low, both, either, Word, begins_with_digit, Term, Passed, RootTerm, What, operation_word, between, all-pass, Part, GotoWord, AName, ANewName, ATarget, ATerm, ARelation, AFuture, KindVariables, MoreVariables, Arguments, RootArguments, Members, HeldFutures, SettledFutures, Predecessor, APriority, LastPriority, ARetry, Of, Values, entry, future_word, relation_word, behind_words, retry_words, term_word, passed_word, root_term_word, variable_word, futures_words, priority_words, line_words, is_plain, IsTidy, AllTidy}
 use Rattle.task_syntax.specs.declared.program.Sort.TheVariants as sort
 use Rattle.task_syntax.specs.declared.instr.MathOp.TheVariants as op
 use Rattle.task_lines.specs.declared.step.Term.TheVariants as term
 use Rattle.task_lines.specs.declared.step.Passed.TheVariants as passed
-use Rattle.task_lines.specs.declared.step.Step.TheVariants.{Set, Math, If, Goto, Label, Cell, Rows, Spawn, All, Copy, Drop, Get, Again, Done}
+use Rattle.task_lines.specs.declared.step.Step.TheVariants.{Set, Math}
 use Rattle.task_lines.specs.declared.item.RootTerm.TheVariants as root_term
 use Rattle.task_lines.specs.declared.item.What.TheVariants as what
-use Rattle.task_lines.specs.Grammar.{future_word, relation_word, behind_words, retry_words}
-use Rattle.task_writer.specs.Words.{term_word, passed_word, root_term_word, variable_word, futures_words, priority_words, line_words}
-use Rattle.task_writer.proofs.WrittenParts.{part_written, parts_written, written}
-use Rattle.task_writer.specs.Canonical.{is_plain, IsTidy, AllTidy}
 use Rattle.task_writer.proofs.Writable.{AllOf, IsWritableTerm, IsWritablePassed, IsWritableRootTerm, IsWritableVariable, IsWritablePart, AreWritable, IsWritable, decimal-digits, decimal-begun}
+use Rattle.task_writer.proofs.WrittenParts.{part_written, parts_written, written}
 
 -- ---- bytes
 
@@ -136,10 +133,7 @@ variable-tidy v h = by-sort v.name v.sort h
 
 operation-fixed : (operation : MathOp) → is_fixed (operation_word operation) ≡ true
 operation-fixed op.Add = refl
-operation-fixed op.Sub = refl
-operation-fixed op.Mul = refl
-operation-fixed op.Div = refl
-operation-fixed op.Rem = refl
+operation-fixed _ = refl
 
 relation-tidy : (relation : Relation) → IsTidy (relation_word relation)
 relation-tidy Less = fixed-tidy (codes "<") refl
@@ -204,23 +198,9 @@ parts-tidy (part ∷ next ∷ ps) vs h = append-tidy (part_written part vs.0) (p
 first-fixed : (w : What) → is_fixed (entry w).word ≡ true
 first-fixed (what.Step (Math operation to left right)) = operation-fixed operation
 first-fixed (what.Kind name arguments) = refl
-first-fixed (what.Var variables) = refl
-first-fixed (what.State name holds settled) = refl
-first-fixed what.End = refl
-first-fixed (what.Root name kind arguments behind priority) = refl
 first-fixed (what.Step (Set to value)) = refl
-first-fixed (what.Step (If relation left right target)) = refl
-first-fixed (what.Step (Goto target)) = refl
-first-fixed (what.Step (Label name)) = refl
-first-fixed (what.Step (Cell to column row)) = refl
-first-fixed (what.Step (Rows to column)) = refl
-first-fixed (what.Step (Spawn to kind arguments behind priority retry)) = refl
-first-fixed (what.Step (All to members priority retry)) = refl
-first-fixed (what.Step (Copy to source)) = refl
-first-fixed (what.Step (Drop future)) = refl
-first-fixed (what.Step (Get to future)) = refl
-first-fixed (what.Step (Again target behind priority)) = refl
-first-fixed (what.Step (Done value)) = refl
+first-fixed (what.Step _) = refl
+first-fixed _ = refl
 
 pub line-tidy : (w : What) → IsWritable w → AllTidy (line_words w)
 line-tidy w h = subst AllTidy (sym (written w)) (fixed-tidy (entry w).word (first-fixed w), parts-tidy (entry w).parts (entry w).values h)

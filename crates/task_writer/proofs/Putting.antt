@@ -1,8 +1,5 @@
 -- Lines that are written word by word.
-use Rattle.task_writer.proofs.Vocabulary.{◌≡◌, ℕ, ◌+◌, ◌<◌, ◌≤◌, List, [], ◌∷◌, ◌++◌, map, length, take, get_or, sym, ◌∙◌, ap, append_assoc, append-nil, take_more, take_all, map-append, map-map, ◌==◌, true, false, arith, eqb-true, flat_map-append, Word}
-use Rattle.task_lines.specs.Grammar.{future_word}
-use Rattle.task_writer.specs.Words.{futures_words}
-use Rattle.task_writer.specs.Text.{spaced, parted, line_text}
+use Rattle.task_writer.proofs.Vocabulary.{◌≡◌, ℕ, ◌+◌, ◌<◌, ◌≤◌, List, [], ◌∷◌, ◌++◌, map, length, take, get_or, sym, ◌∙◌, ap, append_assoc, append-nil, take_more, take_all, map-append, map-map, ◌==◌, true, false, arith, eqb-true, flat_map-append, Word, future_word, futures_words, spaced, parted, line_text}
 
 spaced-append : (xs ys : List Word) → spaced (xs ++ ys) ≡ spaced xs ++ spaced ys
 unfolding spaced

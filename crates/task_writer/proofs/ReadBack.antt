@@ -1,10 +1,5 @@
 -- The canonical text of a well-formed program is read as that program.
-use Rattle.task_writer.proofs.Vocabulary.{◌≡◌, ℕ, Bool, true, false, not, ◌&&◌, ◌||◌, nat_eq, nat_le, List, [], ◌∷◌, Ok, refl, sym, ◌∙◌, ap, subst, arith, ◌==◌, list_all, leb-true, eqb-true, IsWellFormed, Program, is_between, both, Word, Row, lines_of, without_mark, rows_from, rows_of, What, Scope, first_scope, after, RowsSpell, program_in, Spelled, spelled-accepts}
-use Rattle.task_writer.specs.Words.{line_words}
-use Rattle.task_writer.specs.Lines.{lines_of_program}
-use Rattle.task_writer.specs.Text.{spaced, parted, line_text, header_words, text_of_lines, text_of}
-use Rattle.task_writer.specs.Numbering.{renumbered}
-use Rattle.task_writer.specs.Canonical.{is_plain, IsTidy, AllTidy}
+use Rattle.task_writer.proofs.Vocabulary.{◌≡◌, ℕ, Bool, true, false, not, ◌&&◌, ◌||◌, nat_eq, nat_le, List, [], ◌∷◌, Ok, refl, sym, ◌∙◌, ap, subst, arith, ◌==◌, list_all, leb-true, eqb-true, IsWellFormed, Program, is_between, both, Word, Row, lines_of, without_mark, rows_from, rows_of, What, Scope, first_scope, after, RowsSpell, program_in, Spelled, spelled-accepts, line_words, lines_of_program, spaced, parted, line_text, header_words, text_of_lines, text_of, renumbered, is_plain, IsTidy, AllTidy}
 use Rattle.task_writer.proofs.Itemized.{items_at, rows_at}
 use Rattle.task_writer.proofs.RowsOfText.{is_solid, in_word, AreSolid, IsRow, AreRows, first-row, rows-of-lines}
 use Rattle.task_writer.proofs.PlainLines.{line-tidy, line-begun}

@@ -1,5 +1,5 @@
 -- The instructions of a state are read back.
-use Rattle.task_writer.proofs.Vocabulary.{◌≡◌, ℕ, zero, suc, ◌+◌, ◌-◌, ◌<◌, add-one, Bool, true, false, Option, Some, None, List, [], ◌∷◌, ◌++◌, map, length, slice_get, refl, sym, ◌∙◌, ap, subst, arith, length-map, IfSome, same_bytes, EachAt, Each, AllDiffer, IsNumberAt, IsFutureAt, IsFormedOperand, IsFormedArgument, IsFormedInstr, IsLabel, IsLabelAhead, labels_of, State, Kind, Program, Operand, Argument, Instr, Line, differ-tail, differ-head, What, Positions, place_of, number_place, future_place, operand_of, argument_of, instr_of, is_label, steps_to, code_from, line-at, same-name, same-bytes}
+use Rattle.task_writer.proofs.Vocabulary.{◌≡◌, ℕ, zero, suc, ◌+◌, ◌-◌, ◌<◌, add-one, Bool, true, false, Option, Some, None, List, [], ◌∷◌, ◌++◌, map, length, slice_get, refl, sym, ◌∙◌, ap, subst, arith, length-map, IfSome, same_bytes, EachAt, Each, AllDiffer, IsNumberAt, IsFutureAt, IsFormedOperand, IsFormedArgument, IsFormedInstr, IsLabel, IsLabelAhead, labels_of, State, Kind, Program, Operand, Argument, Instr, Line, differ-tail, differ-head, What, Positions, place_of, number_place, future_place, operand_of, argument_of, instr_of, is_label, steps_to, code_from, line-at, same-name, same-bytes, numbered_code}
 use Rattle.std.proofs.Common.{option_map}
 use Rattle.task_syntax.specs.declared.program.Sort.TheVariants as sort
 use Rattle.task_syntax.specs.declared.instr.Operand.TheVariants as operand
@@ -7,7 +7,6 @@ use Rattle.task_syntax.specs.declared.instr.Argument.TheVariants as argument
 use Rattle.task_syntax.specs.declared.instr.Instr.TheVariants.{Set, Math, If, Goto, Label, Cell, Rows, Spawn, All, Copy, Drop, Get, Again, Done}
 use Rattle.task_lines.specs.declared.item.What.TheVariants as what
 use Rattle.task_writer.specs.Lines.{Names, name_at, kind_names, variable_names, state_names, label_names, label_of, names_in, term_of, passed_of, step_of, code_lines}
-use Rattle.task_writer.specs.Numbering.{numbered_code}
 use Rattle.task_writer.proofs.Itemized.{items_at}
 use Rattle.task_writer.proofs.Named.{name-found}
 use Rattle.task_writer.proofs.ReadPlaces.{position-place, variable-place, stands-at}

@@ -1,9 +1,8 @@
 -- The kinds of a program are read back.
-use Rattle.task_writer.proofs.Vocabulary.{◌≡◌, ℕ, zero, suc, ◌+◌, List, [], ◌∷◌, ◌++◌, take, drop, length, refl, ◌∙◌, ap, append_assoc, arith, take-append-drop, length-take-le, flat_map, Each, AllDiffer, IsFormedKind, Kind, Program, What, Positions, states_from, kind_of, kinds_from}
+use Rattle.task_writer.proofs.Vocabulary.{◌≡◌, ℕ, zero, suc, ◌+◌, List, [], ◌∷◌, ◌++◌, take, drop, length, refl, ◌∙◌, ap, append_assoc, arith, take-append-drop, length-take-le, flat_map, Each, AllDiffer, IsFormedKind, Kind, Program, What, Positions, states_from, kind_of, kinds_from, numbered_kind, numbered_kinds}
 use Rattle.task_lines.specs.declared.item.What.TheVariants as what
 use Rattle.task_reader.specs.Names.{kind_names as names_of_kinds, state_names as names_of_states}
 use Rattle.task_writer.specs.Lines.{kind_names, state_names, state_lines, var_lines, kind_lines}
-use Rattle.task_writer.specs.Numbering.{numbered_kind, numbered_kinds}
 use Rattle.task_writer.proofs.Itemized.{items_at}
 use Rattle.task_writer.proofs.Skipped.{SkipsInside, inner_lines, skipped, skips-var, skips-inner}
 use Rattle.task_writer.proofs.ReadCode.{AreOf}

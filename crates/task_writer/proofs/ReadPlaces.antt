@@ -1,8 +1,7 @@
 -- The place of a name is the position that it stands for.
-use Rattle.task_writer.proofs.Vocabulary.{◌≡◌, ℕ, zero, suc, ◌<◌, Bool, true, ◌||◌, Option, Some, None, unwrap_or, List, [], ◌∷◌, length, slice_get, refl, sym, ◌∙◌, ap, slice_get-get_or, list_any, same_bytes, AllDiffer, Sort, Future, Variable, both, or_right, is_among, same-bytes, same_sort, is_variable, has_variable, place_where, place_of, place-where, same-name}
+use Rattle.task_writer.proofs.Vocabulary.{◌≡◌, ℕ, zero, suc, ◌<◌, Bool, true, ◌||◌, Option, Some, None, unwrap_or, List, [], ◌∷◌, length, slice_get, refl, sym, ◌∙◌, ap, slice_get-get_or, list_any, same_bytes, AllDiffer, Sort, Future, Variable, both, or_right, is_among, same-bytes, same_sort, is_variable, has_variable, place_where, place_of, place-where, same-name, same-sort-is, name_at, variable_names}
 use Rattle.std.proofs.Common.{option_map}
 use Rattle.task_syntax.specs.declared.program.Sort.TheVariants.{Number}
-use Rattle.task_writer.specs.Lines.{name_at, variable_names}
 use Rattle.task_writer.proofs.Named.{name-found}
 
 -- ---- one that passes a test
@@ -54,12 +53,6 @@ same-sort-self : (sort : Sort) → same_sort sort sort ≡ true
 same-sort-self Number = refl
 same-sort-self Future = refl
 
-sort-same : (a b : Sort) → same_sort a b ≡ true → a ≡ b
-sort-same Number Number h = refl
-sort-same Future Future h = refl
-sort-same Number Future h = cc
-sort-same Future Number h = cc
-
 is-itself : (sort : Sort) (v : Variable) → v.sort ≡ sort → is_variable sort v.name v ≡ true
 is-itself sort v e = rw (e, same-sort-self sort, same-bytes v.name) refl
 
@@ -68,7 +61,7 @@ variables-same m n a b e f = rw (e, f) refl
 
 only-itself : (sort : Sort) (v w : Variable) → v.sort ≡ sort → is_variable sort v.name w ≡ true → w ≡ v
 only-itself sort v w e h = let b : (same_sort sort w.sort ≡ true) × (same_bytes v.name w.name ≡ true) = both _ _ h in
-    variables-same w.name v.name w.sort v.sort (sym (same-name v.name w.name b.1)) (sym (sort-same sort w.sort b.0) ∙ sym e)
+    variables-same w.name v.name w.sort v.sort (sym (same-name v.name w.name b.1)) (sym (same-sort-is sort w.sort b.0) ∙ sym e)
 
 pub variable-known : (variables : List Variable) (sort : Sort) (at : ℕ) → StandsAt variables sort at → has_variable variables sort (name_at (variable_names variables) at) ≡ true
 variable-known variables sort at s = let e = name-found (λ (v : Variable). v.name) variables at s.variable s.stands in

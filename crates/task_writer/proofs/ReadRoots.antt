@@ -1,10 +1,9 @@
 -- The roots of a program are read back.
-use Rattle.task_writer.proofs.Vocabulary.{◌≡◌, ℕ, suc, ◌+◌, ◌<◌, List, [], ◌∷◌, ◌++◌, map, length, slice_get, Some, unwrap_or, refl, sym, ◌∙◌, ap, subst, append_assoc, arith, length-map, length-append, flat_map, EachAt, AllDiffer, IsFormedRoot, IsFormedRootArgument, RootArgument, Kind, Root, Program, get-front, differ-front, What, place_of, root_argument_of, root_of, roots_from, kinds_from}
+use Rattle.task_writer.proofs.Vocabulary.{◌≡◌, ℕ, suc, ◌+◌, ◌<◌, List, [], ◌∷◌, ◌++◌, map, length, slice_get, Some, unwrap_or, refl, sym, ◌∙◌, ap, subst, append_assoc, arith, length-map, length-append, flat_map, EachAt, AllDiffer, IsFormedRoot, IsFormedRootArgument, RootArgument, Kind, Root, Program, get-front, differ-front, What, place_of, root_argument_of, root_of, roots_from, kinds_from, numbered_roots}
 use Rattle.std.proofs.Common.{option_map}
 use Rattle.task_syntax.specs.declared.program.RootArgument.TheVariants as root_argument
 use Rattle.task_reader.specs.Names.{kind_names as names_of_kinds}
 use Rattle.task_writer.specs.Lines.{name_at, kind_names, root_names, kind_lines, root_term_of, root_line}
-use Rattle.task_writer.specs.Numbering.{numbered_roots}
 use Rattle.task_writer.proofs.Itemized.{items_at}
 use Rattle.task_writer.proofs.Skipped.{SkipsInside, inner_lines, skipped, skips-inner}
 use Rattle.task_writer.proofs.ReadPlaces.{position-place, named-at, name-place}

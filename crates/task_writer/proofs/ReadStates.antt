@@ -1,8 +1,7 @@
 -- The variables and the states of a kind are read back.
-use Rattle.task_writer.proofs.Vocabulary.{◌≡◌, ℕ, zero, suc, ◌+◌, List, [], ◌∷◌, ◌++◌, map, length, refl, append_assoc, append-nil, arith, flat_map, Each, IsFormedState, Variable, State, Kind, Program, What, Positions, state_names, states_from, variables_from}
+use Rattle.task_writer.proofs.Vocabulary.{◌≡◌, ℕ, zero, suc, ◌+◌, List, [], ◌∷◌, ◌++◌, map, length, refl, append_assoc, append-nil, arith, flat_map, Each, IsFormedState, Variable, State, Kind, Program, What, Positions, state_names, states_from, variables_from, numbered_states}
 use Rattle.task_lines.specs.declared.item.What.TheVariants as what
 use Rattle.task_writer.specs.Lines.{kind_names, names_in, code_lines, state_lines, var_lines}
-use Rattle.task_writer.specs.Numbering.{numbered_states}
 use Rattle.task_writer.proofs.Itemized.{items_at}
 use Rattle.task_writer.proofs.Skipped.{skipped, skips-code}
 use Rattle.task_writer.proofs.ReadCode.{AreOf, EndsCode, code-back, futures-back, from-start}

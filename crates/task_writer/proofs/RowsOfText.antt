@@ -1,8 +1,6 @@
 -- The rows of a canonical text are the words of its lines.
-use Rattle.task_writer.proofs.Vocabulary.{◌≡◌, ℕ, ◌+◌, Bool, true, false, not, ◌&&◌, cond, List, [], ◌∷◌, ◌++◌, refl, ◌∙◌, ap, append_assoc, ◌==◌, take, one-add, list_all, prefix_len, both, Word, Row, is_blank, in_front, lines_of, code_of, begins_with_word, with_row, rows_from, What}
+use Rattle.task_writer.proofs.Vocabulary.{◌≡◌, ℕ, ◌+◌, Bool, true, false, not, ◌&&◌, cond, List, [], ◌∷◌, ◌++◌, refl, ◌∙◌, ap, append_assoc, ◌==◌, take, one-add, list_all, prefix_len, both, Word, Row, is_blank, in_front, lines_of, code_of, begins_with_word, with_row, rows_from, What, line_words, spaced, parted, line_text, text_of_lines}
 use Rattle.task_text.specs.Text.{words_of}
-use Rattle.task_writer.specs.Words.{line_words}
-use Rattle.task_writer.specs.Text.{spaced, parted, line_text, text_of_lines}
 use Rattle.task_writer.proofs.Itemized.{rows_at}
 
 -- ---- bytes

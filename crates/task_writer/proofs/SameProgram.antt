@@ -1,10 +1,7 @@
 -- Numbering a program changes its line numbers alone, and these are not printed.
-use Rattle.task_writer.proofs.Vocabulary.{◌≡◌, ℕ, ◌+◌, List, [], ◌∷◌, ◌++◌, map, length, drop, take, refl, ◌∙◌, ap, flat_map, Line, State, Kind, Root, Program}
+use Rattle.task_writer.proofs.Vocabulary.{◌≡◌, ℕ, ◌+◌, List, [], ◌∷◌, ◌++◌, map, length, drop, take, refl, ◌∙◌, ap, flat_map, Line, State, Kind, Root, Program, line_text, header_words, text_of_lines, text_of, numbered_code, numbered_state, numbered_states, numbered_kind, numbered_kinds, numbered_roots, renumbered, unnumbered_line, unnumbered_state, unnumbered_kind, unnumbered_root, AreSameButLines}
 use Rattle.task_lines.specs.declared.item.What.TheVariants as what
 use Rattle.task_writer.specs.Lines.{Names, name_at, label_of, step_of, kind_names, variable_names, state_names, label_names, root_names, names_in, code_lines, state_lines, var_lines, kind_lines, root_line, lines_of_program}
-use Rattle.task_writer.specs.Text.{line_text, header_words, text_of_lines, text_of}
-use Rattle.task_writer.specs.Numbering.{numbered_code, numbered_state, numbered_states, numbered_kind, numbered_kinds, numbered_roots, renumbered}
-use Rattle.task_writer.specs.Same.{unnumbered_line, unnumbered_state, unnumbered_kind, unnumbered_root, AreSameButLines}
 
 -- ---- all else is kept
 

@@ -1,7 +1,6 @@
 -- Lines of which a reading takes no notice.
-use Rattle.task_writer.proofs.Vocabulary.{◌≡◌, ℕ, suc, ◌+◌, List, [], ◌∷◌, ◌++◌, map, drop, length, ◌∙◌, ap, arith, flat_map, Variable, State, Kind, Line, Step, What, Item}
+use Rattle.task_writer.proofs.Vocabulary.{◌≡◌, ℕ, suc, ◌+◌, List, [], ◌∷◌, ◌++◌, map, drop, length, ◌∙◌, ap, arith, flat_map, Variable, State, Kind, Line, Step, What, Item, names_in, code_lines, state_lines, var_lines}
 use Rattle.task_lines.specs.declared.item.What.TheVariants as what
-use Rattle.task_writer.specs.Lines.{names_in, code_lines, state_lines, var_lines}
 use Rattle.task_writer.proofs.Itemized.{items_at}
 
 abbrev pub Skips : {Y : Type 0} → (List Item → Y) → What → Type 0

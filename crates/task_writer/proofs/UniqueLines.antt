@@ -1,11 +1,11 @@
 -- The lines of the program that items stand for are the lines of the items.
-use Rattle.task_writer.proofs.Vocabulary.{◌≡◌, ◌≢◌, ℕ, suc, ◌+◌, true, Option, unwrap_or, List, [], ◌∷◌, ◌++◌, map, length, take, drop, slice_get, Ok, refl, sym, ◌∙◌, ap, subst, arith, append_assoc, append-nil, flat_map, take-append_seam, drop-append_seam, same_bytes, Variable, State, Kind, Priority, Line, get-front, is_among, Step, RootTerm, What, Item, Place, Outside, Head, Code, Ended, Scope, first_scope, after, place_behind, IsInState, MayBegin, MayFollow, Positions, UsesFuture, UsesRoot, root_term_use, behind_uses, futures_uses, root_uses, state_uses, step_uses, Known, is_given, known_at, uses_known, line_known, names_known, label_names, place_of, future_place, instr_of, steps_to, code_from, state_of, states_from, variables_from, kind_of, kinds_from, root_argument_of, root_of, roots_from, program_of, AllGiven, both-known, all-given, given-parts, futures-given, same-futures, known_for, known-is, place-where, same-name, Stand, item_at, names-of-kinds, names-of-roots, names-of-states}
+use Rattle.task_writer.proofs.Vocabulary.{◌≡◌, ◌≢◌, ℕ, suc, ◌+◌, true, Option, unwrap_or, List, [], ◌∷◌, ◌++◌, map, length, take, drop, slice_get, Ok, refl, sym, ◌∙◌, ap, subst, arith, append_assoc, append-nil, flat_map, take-append_seam, drop-append_seam, same_bytes, Variable, State, Kind, Priority, Line, get-front, is_among, Step, RootTerm, What, Item, Place, Outside, Head, Code, Ended, Scope, first_scope, after, IsInState, MayBegin, MayFollow, Positions, UsesFuture, UsesRoot, root_term_use, behind_uses, futures_uses, root_uses, state_uses, step_uses, Known, is_given, known_at, uses_known, line_known, names_known, label_names, place_of, future_place, instr_of, steps_to, code_from, state_of, states_from, variables_from, kind_of, kinds_from, root_argument_of, root_of, roots_from, program_of, AllGiven, both-known, all-given, given-parts, futures-given, same-futures, known_for, known-is, place-where, same-name, Stand, item_at, names-of-kinds, names-of-roots, names-of-states, state-behind, no-step}
 use Rattle.std.proofs.Common.{option_map}
-use Rattle.task_lines.specs.declared.step.Step.TheVariants.{Goto, Label, Again, Done}
+use Rattle.task_lines.specs.declared.step.Step.TheVariants.{Label}
 use Rattle.task_lines.specs.declared.item.RootTerm.TheVariants as root_term
 use Rattle.task_lines.specs.declared.item.What.TheVariants as what
 use Rattle.task_reader.specs.Names as reader
-use Rattle.task_reader.proofs.Stands as stands
+use Rattle.task_reader.specs.Fits as fits
 use Rattle.task_writer.specs.Lines.{Names, name_at, kind_names, variable_names, state_names, root_names, label_of, names_in, step_of, code_lines, state_lines, var_lines, kind_lines, root_term_of, root_line, lines_of_program}
 use Rattle.task_writer.specs.Lines as lines
 use Rattle.task_writer.proofs.Named.{name-found}
@@ -70,7 +70,7 @@ record IsGiven (all : List Item) (roots : List (List ℕ)) (s : Scope) (items : 
   stand : Stand s items
   known : names_known all s items ≡ Ok tt
   ordered : IsOrdered items
-  roots_are : s.roots ++ stands.root_names items ≡ roots
+  roots_are : s.roots ++ fits.root_names items ≡ roots
 
 abbrev InStates : List (List ℕ) → List (List ℕ) → Positions → Kind → Scope → List Item → List What
 InStates kinds roots positions kind s items = flat_map (state_lines kinds kind) (states_from positions items) ++ (what.End ∷ later kinds roots s.roots items)
@@ -93,16 +93,6 @@ no-state place is e = subst IsInState e is
 no-head : (place : Place) → IsInState place → place ≡ Head → ⊥
 no-head place is e = subst IsInState e is
 
-in-state : (step : Step) → IsInState (place_behind step)
-in-state (Goto target) = tt
-in-state (Again target behind priority) = tt
-in-state (Done value) = tt
-in-state _ = tt
-
-no-step : (place : Place) (step : Step) → place ≡ Head → MayFollow place step → ⊥
-no-step place (Label name) e may = subst IsInState e may
-no-step place step e may = let f : Code ≡ Head = sym may ∙ e in cc
-
 -- ---- instructions
 
 names-same : (positions : Positions) (kinds : List (List ℕ)) (kind : Kind) (labels : List (List ℕ)) → HasNames positions kinds kind
@@ -117,7 +107,7 @@ code-of-step : (all : List Item) (kinds roots : List (List ℕ)) → reader.kind
     → whats (item_at line (what.Step step) ∷ items) ≡ code_lines (names_in kinds kind state) (code_from positions at (item_at line (what.Step step) ∷ items)) ++ InStates kinds roots positions kind s (item_at line (what.Step step) ∷ items)
 unfolding code_from states_from kinds_from roots_from names_known
 code-of-step all kinds roots named line step items c s positions kind has state at given variables states code =
-    ap (λ ws. what.Step step ∷ ws) (c.code (after s (what.Step step)) positions kind has state (at + 1) (in-state step) behind variables states ahead)
+    ap (λ ws. what.Step step ∷ ws) (c.code (after s (what.Step step)) positions kind has state (at + 1) (state-behind step) behind variables states ahead)
     ∙ ap (λ z. what.Step z ∷ (code_lines (names_in kinds kind state) (code_from positions (at + 1) items) ++ InStates kinds roots positions kind s items)) (sym same) where
       parts : (uses_known (known_at all s items) line 1 (step_uses step) ≡ Ok tt) × (names_known all (after s (what.Step step)) items ≡ Ok tt)
       parts = both-known (uses_known (known_at all s items) line 1 (step_uses step)) (names_known all (after s (what.Step step)) items) given.known
@@ -315,9 +305,9 @@ root-of-line all kinds roots named line name callee arguments behind priority it
     let parts = both-known (line_known (known_at all s items) line w) (names_known all (after s w) items) given.known in
     let none = no-kinds kinds items given.ordered.0 given.ordered.1 in
     let last = map (root_line kinds roots) (roots_from kinds (s.roots ++ name ∷ []) items) in
-    let further : IsGiven all roots (after s w) items = record { stand = given.stand.2; known = parts.1; ordered = given.ordered.1; roots_are = append_assoc s.roots (name ∷ []) (stands.root_names items) ∙ given.roots_are } in
+    let further : IsGiven all roots (after s w) items = record { stand = given.stand.2; known = parts.1; ordered = given.ordered.1; roots_are = append_assoc s.roots (name ∷ []) (fits.root_names items) ∙ given.roots_are } in
     ap (λ ws. w ∷ ws) (c.outside (after s w) is further ∙ ap (λ (ks : List Kind). flat_map (kind_lines kinds) ks ++ last) none)
-    ∙ (ap (λ z. z ∷ last) (sym (root-same all kinds roots named line name callee arguments behind priority items s (name ∷ stands.root_names items) given.roots_are parts.0))
+    ∙ (ap (λ z. z ∷ last) (sym (root-same all kinds roots named line name callee arguments behind priority items s (name ∷ fits.root_names items) given.roots_are parts.0))
     ∙ ap (λ (ks : List Kind). flat_map (kind_lines kinds) ks ++ (root_line kinds roots (root_of kinds s.roots line name callee arguments behind priority) ∷ last)) (sym none))
 
 outside-step : (all : List Item) (kinds roots : List (List ℕ)) → reader.kind_names all ≡ kinds → (line : ℕ) (w : What) (items : List Item) → Claims all kinds roots items
@@ -358,7 +348,7 @@ pub items-lines : (items : List Item) → Stand first_scope items → names_know
 unfolding lines_of_program program_of
 items-lines items stand known_ ordered =
     let K = reader.kind_names items in
-    let R = stands.root_names items in
+    let R = fits.root_names items in
     let kinds = kinds_from K items in
     let roots = roots_from K [] items in
     ap (λ ns. flat_map (kind_lines ns) kinds ++ map (root_line ns (root_names roots)) roots) (names-of-kinds K items)

@@ -1,10 +1,6 @@
 -- A program has one canonical text.
-use Rattle.task_writer.proofs.Vocabulary.{◌≡◌, ℕ, ◌+◌, Bool, true, false, ◌&&◌, not, nat_eq, nat_le, List, [], ◌∷◌, ◌++◌, map, take, drop, Ok, cond, refl, sym, ◌∙◌, ap, subst, arith, codes, flat_map, list_all, pointwise, leb-true, eqb-true, is_between, Program, both, Word, Row, lines_of, without_mark, rows_from, rows_of, What, Item, Scope, first_scope, after, RowsSpellFrom, RowsSpell, program_in, program_of, names_known, Variable, program_in-spelled, Stand}
+use Rattle.task_writer.proofs.Vocabulary.{◌≡◌, ℕ, ◌+◌, Bool, true, false, ◌&&◌, not, nat_eq, nat_le, List, [], ◌∷◌, ◌++◌, map, take, drop, Ok, cond, refl, sym, ◌∙◌, ap, subst, arith, codes, flat_map, list_all, pointwise, leb-true, eqb-true, is_between, Program, both, Word, Row, lines_of, without_mark, rows_from, rows_of, What, Item, Scope, first_scope, after, RowsSpellFrom, RowsSpell, program_in, program_of, names_known, Variable, program_in-spelled, rows-stand, line_words, lines_of_program, header_words, text_of, is_plain, EachTidy, Opens, EachNext, IsCanonical}
 use Rattle.task_lines.specs.declared.item.What.TheVariants as what
-use Rattle.task_writer.specs.Words.{line_words}
-use Rattle.task_writer.specs.Lines.{lines_of_program}
-use Rattle.task_writer.specs.Text.{header_words, text_of}
-use Rattle.task_writer.specs.Canonical.{is_plain, EachTidy, Opens, EachNext, IsCanonical}
 use Rattle.task_writer.proofs.RowsOfText.{first-row}
 use Rattle.task_writer.proofs.ReadBack.{is-row}
 use Rattle.task_writer.proofs.CanonicalText.{written, line-parted, text-parted, VarBehindKind, RootBehindRoot, apart, step-inner}
@@ -46,12 +42,6 @@ no-mark (((byte ∷ bytes) ∷ []) ∷ lines) h = mark-cut byte _ (not-mark byte
 no-mark (((byte ∷ bytes) ∷ word ∷ words) ∷ lines) h = mark-cut byte _ (not-mark byte (both (is_plain byte) (list_all is_plain bytes) h.1.0.plain).0)
 
 -- ---- the items of tidy rows
-
-rows-stand : (s : Scope) (rows : List Row) (items : List Item) → RowsSpellFrom s rows items → Stand s items
-rows-stand s [] [] h = h
-rows-stand s [] (item ∷ items) h = absurd h
-rows-stand s (row ∷ rows) [] h = absurd h
-rows-stand s (row ∷ rows) (item ∷ items) h = ((row.words, h.1), h.2, rows-stand (after s item.what) rows items h.3)
 
 rows-words : (s : Scope) (at : ℕ) (lines : List (List Word)) (items : List Item) → EachTidy lines → RowsSpellFrom s (numbered at lines) items → lines ≡ map line_words (whats items)
 rows-words s at [] [] t h = refl

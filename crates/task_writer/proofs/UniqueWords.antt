@@ -1,15 +1,12 @@
 -- Tidy words that spell a line are the words that are written of it.
-use Rattle.task_writer.proofs.Vocabulary.{◌≡◌, ◌≢◌, ℕ, ◌^◌, true, ◌&&◌, List, [], ◌∷◌, ◌++◌, map, length, refl, sym, ◌∙◌, ap, subst, append-nil, inl, inr, codes, decimal, nat_lt, list_all, digits_value, is_between, is_digit, Sort, Variable, Priority, High, Regular, Low, both, Word, begins_with_digit, Term, Passed, RootTerm, What, SpellsFuture, SpellsNumber, SpellsTerm, SpellsPassed, SpellsRootTerm, SpellsVariable, EachSpells, SpellsFutures, SpellsPriority, Spells, Part, GotoWord, AName, ANewName, ATarget, ATerm, ARelation, AFuture, KindVariables, MoreVariables, Arguments, RootArguments, Members, HeldFutures, SettledFutures, Predecessor, APriority, LastPriority, ARetry, Of, Values, Choice, Choices, part_words, entry}
+use Rattle.task_writer.proofs.Vocabulary.{◌≡◌, ◌≢◌, ℕ, ◌^◌, true, ◌&&◌, List, [], ◌∷◌, ◌++◌, map, length, refl, sym, ◌∙◌, ap, subst, append-nil, inl, inr, codes, decimal, nat_lt, list_all, digits_value, is_between, is_digit, Sort, Variable, Priority, High, Regular, Low, both, Word, begins_with_digit, Term, Passed, RootTerm, What, SpellsFuture, SpellsNumber, SpellsTerm, SpellsPassed, SpellsRootTerm, SpellsVariable, EachSpells, SpellsFutures, SpellsPriority, Spells, Part, GotoWord, ATerm, KindVariables, MoreVariables, Arguments, RootArguments, Members, HeldFutures, SettledFutures, Predecessor, APriority, LastPriority, Of, Values, Choice, Choices, part_words, entry, future_word, term_word, passed_word, root_term_word, variable_word, futures_words, priority_words, line_words, IsTidy, AllTidy}
 use Rattle.task_syntax.specs.declared.program.Sort.TheVariants as sort
 use Rattle.task_lines.specs.declared.step.Term.TheVariants as term
 use Rattle.task_lines.specs.declared.step.Passed.TheVariants as passed
 use Rattle.task_lines.specs.declared.item.RootTerm.TheVariants as root_term
-use Rattle.task_lines.specs.Grammar.{future_word}
 use Rattle.task_lines.specs.Table.{words_of}
-use Rattle.task_writer.specs.Words.{term_word, passed_word, root_term_word, variable_word, futures_words, priority_words, line_words}
-use Rattle.task_writer.proofs.WrittenParts.{part_written, parts_written, written}
-use Rattle.task_writer.specs.Canonical.{IsTidy, AllTidy}
 use Rattle.task_writer.proofs.Writable.{decimal-value}
+use Rattle.task_writer.proofs.WrittenParts.{part_written, parts_written, written}
 
 digit-begins : (word : Word) → word ≢ [] → list_all is_digit word ≡ true → begins_with_digit word ≡ true
 digit-begins [] n h = absurd (n refl)
@@ -75,12 +72,7 @@ priority-unique words Regular (inr e) t = e.0
 
 part-unique : (part : Part) (v : Of part) (c : Choice part v) → AllTidy (part_words part v c) → part_words part v c ≡ part_written part v
 part-unique GotoWord v c t = refl
-part-unique AName name c t = refl
-part-unique (ANewName named) name c t = refl
-part-unique ATarget name c t = refl
 part-unique ATerm term c t = ap (λ w. w ∷ []) (term-unique c.0 term c.1 t.0)
-part-unique ARelation relation c t = refl
-part-unique AFuture name c t = refl
 part-unique KindVariables variables c t = each-unique SpellsVariable variable_word variable-unique c.0 variables c.1 t
 part-unique MoreVariables variables c t = each-unique SpellsVariable variable_word variable-unique c.0 variables c.2 t
 part-unique Arguments arguments c t = each-unique SpellsPassed passed_word passed-unique c.0 arguments c.1 t
@@ -91,7 +83,7 @@ part-unique SettledFutures names c t = futures-unique (codes "settled") c.0 name
 part-unique Predecessor behind c t = c.1.0
 part-unique APriority priority c t = priority-unique c.0 priority c.1 t
 part-unique LastPriority priority c t = priority-unique c.0 priority c.1 t
-part-unique ARetry retry c t = refl
+part-unique _ _ c t = refl
 
 parts-unique : (ps : List Part) (vs : Values ps) (c : Choices ps vs) → AllTidy (words_of ps vs c []) → words_of ps vs c [] ≡ parts_written ps vs
 parts-unique [] vs c t = refl

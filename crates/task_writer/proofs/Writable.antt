@@ -1,12 +1,10 @@
 -- Lines whose names are names and whose numbers fit: their words spell them.
-use Rattle.task_writer.proofs.Vocabulary.{◌≡◌, ◌≢◌, ℕ, ◌<◌, ◌≤◌, ◌^◌, Bool, true, ◌&&◌, nat_le, nat_lt, Option, List, [], ◌∷◌, ◌++◌, map, length, refl, sym, append-nil, ◌∙◌, ap, inl, inr, arith, codes, decimal, IfSome, list_all, digits_value, leb-true, le-leb, lt-ltb, digits_decimal, digits_value-decimal, length-decimal-le, decimal_nonempty, IsDigitsTest, IsNumeralModel, numerals_by_value, is_digit, IsName, Sort, Variable, Priority, High, Regular, Low, both, Word, Term, Passed, RootTerm, What, SpellsFuture, SpellsNumber, SpellsTerm, SpellsPassed, SpellsRootTerm, SpellsVariable, EachSpells, SpellsFutures, SpellsBehind, SpellsPriority, Spells, Part, GotoWord, AName, ANewName, ATarget, ATerm, ARelation, AFuture, KindVariables, MoreVariables, Arguments, RootArguments, Members, HeldFutures, SettledFutures, Predecessor, APriority, LastPriority, ARetry, Of, Values, Choice, Choices, part_words, entry}
+use Rattle.task_writer.proofs.Vocabulary.{◌≡◌, ◌≢◌, ℕ, ◌<◌, ◌≤◌, ◌^◌, Bool, true, ◌&&◌, nat_le, nat_lt, Option, List, [], ◌∷◌, ◌++◌, map, length, refl, sym, append-nil, ◌∙◌, ap, inl, inr, arith, codes, decimal, IfSome, list_all, digits_value, leb-true, le-leb, lt-ltb, digits_decimal, digits_value-decimal, length-decimal-le, decimal_nonempty, IsDigitsTest, IsNumeralModel, numerals_by_value, is_digit, IsName, Sort, Variable, Priority, High, Regular, Low, both, Word, Term, Passed, RootTerm, What, SpellsFuture, SpellsNumber, SpellsTerm, SpellsPassed, SpellsRootTerm, SpellsVariable, EachSpells, SpellsFutures, SpellsBehind, SpellsPriority, Spells, Part, GotoWord, AName, ANewName, ATarget, ATerm, ARelation, AFuture, KindVariables, MoreVariables, Arguments, RootArguments, Members, HeldFutures, SettledFutures, Predecessor, APriority, LastPriority, ARetry, Of, Values, Choice, Choices, part_words, entry, future_word, behind_words, term_word, passed_word, root_term_word, variable_word, futures_words, priority_words, line_words}
 use Rattle.task_syntax.specs.declared.program.Sort.TheVariants as sort
 use Rattle.task_lines.specs.declared.step.Term.TheVariants as term
 use Rattle.task_lines.specs.declared.step.Passed.TheVariants as passed
 use Rattle.task_lines.specs.declared.item.RootTerm.TheVariants as root_term
-use Rattle.task_lines.specs.Grammar.{future_word, behind_words}
 use Rattle.task_lines.specs.Table.{words_of}
-use Rattle.task_writer.specs.Words.{term_word, passed_word, root_term_word, variable_word, futures_words, priority_words, line_words}
 use Rattle.task_writer.proofs.WrittenParts.{part_written, parts_written, written}
 
 -- ---- what may be written

@@ -1,8 +1,5 @@
 -- What holds of the text that is written.
-use Rattle.task_writer.proofs.Vocabulary.{◌≡◌, ℕ, List, Ok, sym, ◌∙◌, ap, subst, IsWellFormed, Program, program_in}
-use Rattle.task_writer.specs.Text.{text_of}
-use Rattle.task_writer.specs.Numbering.{renumbered}
-use Rattle.task_writer.specs.Canonical.{IsCanonical}
+use Rattle.task_writer.proofs.Vocabulary.{◌≡◌, ℕ, List, Ok, sym, ◌∙◌, ap, subst, IsWellFormed, Program, program_in, text_of, renumbered, IsCanonical}
 use Rattle.task_writer.proofs.SameProgram.{prints_the_same}
 use Rattle.task_writer.proofs.ReadBack.{reads_back}
 use Rattle.task_writer.proofs.CanonicalText.{is_canonical}

@@ -1,6 +1,6 @@
 -- The words that are written of a line are those of its parts, one part after the other.
 use Rattle.task_writer.proofs.Vocabulary.{◌≡◌, List, [], ◌∷◌, ◌++◌, map, refl, codes, Word, What, Part, GotoWord, AName, ANewName, ATarget, ATerm, ARelation, AFuture, KindVariables, MoreVariables, Arguments, RootArguments, Members, HeldFutures, SettledFutures, Predecessor, APriority, LastPriority, ARetry, Of, Values, entry}
-use Rattle.task_lines.specs.declared.step.Step.TheVariants.{Set, Math, If, Goto, Label, Cell, Rows, Spawn, All, Copy, Drop, Get, Again, Done}
+use Rattle.task_lines.specs.declared.step.Step.TheVariants.{Set}
 use Rattle.task_lines.specs.declared.item.What.TheVariants as what
 use Rattle.task_lines.specs.Spelling.{future_word, relation_word, behind_words, retry_words}
 use Rattle.task_writer.specs.Words.{term_word, passed_word, root_term_word, variable_word, futures_words, priority_words, line_words}
@@ -35,21 +35,6 @@ parts_written (part ∷ next ∷ parts) vs = part_written part vs.0 ++ parts_wri
 -- the words that are written of a line are those of its entry
 pub written : (w : What) → line_words w ≡ (entry w).word ∷ parts_written (entry w).parts (entry w).values
 written (what.Kind name arguments) = refl
-written (what.Var variables) = refl
-written (what.State name holds settled) = refl
-written what.End = refl
-written (what.Root name kind arguments behind priority) = refl
 written (what.Step (Set to value)) = refl
-written (what.Step (Math operation to left right)) = refl
-written (what.Step (If relation left right target)) = refl
-written (what.Step (Goto target)) = refl
-written (what.Step (Label name)) = refl
-written (what.Step (Cell to column row)) = refl
-written (what.Step (Rows to column)) = refl
-written (what.Step (Spawn to kind arguments behind priority retry)) = refl
-written (what.Step (All to members priority retry)) = refl
-written (what.Step (Copy to source)) = refl
-written (what.Step (Drop future)) = refl
-written (what.Step (Get to future)) = refl
-written (what.Step (Again target behind priority)) = refl
-written (what.Step (Done value)) = refl
+written (what.Step _) = refl
+written _ = refl

@@ -44,7 +44,8 @@ impl<'r, R: Files> FileShelf<'r, R> {
 }
 
 impl<'r, R: Files> Shelf for FileShelf<'r, R> {
-    ghost seen = { λ shelf. record { holds = λ _. None; last = shelf.last; faults = shelf.faults } };
+    ghost seen = { λ shelf.
+        record { holds = λ _. None; last = shelf.last; faults = shelf.faults } };
 
     fn fetch(&mut self, name: &str, most: u64, into: &mut Vec<u8>) -> Result<(), FetchError> {
         let result = self.read_file(name, most, into);

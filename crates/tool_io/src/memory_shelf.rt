@@ -74,7 +74,8 @@ impl Shelf for MemoryShelf {
         requires { into.old.items ≡ [] }
         ensures content { OnOk result (Holds (seen_of self.old) name.now into.new.items) }
         ensures short { OnOk result (length into.new.items ≤ most) }
-        ensures long { IsErrOf result FetchError.TooLong → HoldsMore (seen_of self.old) name.now most }
+        ensures long { IsErrOf result FetchError.TooLong →
+            HoldsMore (seen_of self.old) name.now most }
         ensures empty { OnErr result (into.new.items ≡ []) }
         ensures kept { (seen_of self.new).holds ≡ (seen_of self.old).holds }
         ensures told { self.new.last ≡ Some result }

@@ -60,13 +60,15 @@ impl Sink for MemorySink {
 
     fn put(&mut self, piece: &[u8]) -> Result<usize, Failed>
         ensures bound { WritesAtMost result piece.now }
-        ensures bytes { WriteAppends (Some self.old.bytes.items) (Some self.new.bytes.items) result piece.now }
+        ensures bytes { WriteAppends (Some self.old.bytes.items) (Some self.new.bytes.items)
+            result piece.now }
         ensures some { 0 < length piece.now → IfOk result (λ count. 0 < count) }
         ensures cause { ErrOnlyByFault result self.old.faults self.new.faults }
 
         // It fails exactly in the listed calls and where the room ends, and takes a whole piece else.
         ensures fails { OnErr result (Fails self.old piece.now) }
-        ensures whole { IfOk result (λ count. (count ≡ length piece.now) × ¬ Fails self.old piece.now) }
+        ensures whole { IfOk result
+            (λ count. (count ≡ length piece.now) × ¬ Fails self.old piece.now) }
         ensures counts { Counts self.old self.new result }
     {
         self.calls = one_more(self.calls);

@@ -13,7 +13,8 @@ pub(crate) fn read_up_to<R: Read>(
     faults: &mut u64,
 ) -> Result<(), FetchError>
     requires { into.old.items ≡ [] }
-    ensures content { OnOk result (IfSome (R.remaining reader.old) (λ bytes. into.new.items ≡ bytes)) }
+    ensures content { OnOk result
+        (IfSome (R.remaining reader.old) (λ bytes. into.new.items ≡ bytes)) }
     ensures short { OnOk result (length into.new.items ≤ most) }
     ensures long { IsErrOf result FetchError.TooLong →
         IfSome (R.remaining reader.old) (λ bytes. most < length bytes) }

@@ -1,6 +1,4 @@
-use Rattle.task_reader.proofs.Vocabulary.{◌≡◌, ◌≤◌, drop, first_scope}
-use Rattle.task_reader.specs.Names.{names_known}
-use Rattle.task_reader.specs.Fits.{EachIsShort}
+use Rattle.task_reader.proofs.Vocabulary.{◌≡◌, ◌≤◌, drop, first_scope, names_known, EachIsShort}
 use Rattle.task_reader.proofs.names.names_known.Given as goal
 
 abbrev pub invariant-items : goal.invariant-items

@@ -1,5 +1,4 @@
-use Rattle.task_reader.proofs.Vocabulary.{◌≡◌, ◌++◌, ◌∷◌, [], drop, ◌+◌, arith, ◌∙◌, ap, Instr, Line}
-use Rattle.task_reader.specs.Program.{steps_to, instr_of, code_from}
+use Rattle.task_reader.proofs.Vocabulary.{◌≡◌, ◌++◌, ◌∷◌, [], drop, ◌+◌, arith, ◌∙◌, ap, Instr, Line, steps_to, instr_of, code_from}
 use Rattle.task_reader.proofs.GatherLemmas.{gather-turn, gather-stop, gather-end, code-step, code-stop, code-none, room-turn}
 use Rattle.task_reader.proofs.state.code_of.Goals as goal
 

@@ -1,6 +1,4 @@
-use Rattle.task_writer.specs.Lines.{variable_names, passed_of}
-use Rattle.task_writer.specs.Words.{passed_word}
-use Rattle.task_writer.proofs.Vocabulary.{Word, Literal, Argument}
+use Rattle.task_writer.proofs.Vocabulary.{Word, Literal, Argument, variable_names, passed_of, passed_word}
 use Rattle.task_syntax.specs.declared.instr.Argument.TheVariants.{Number}
 use Rattle.task_writer.proofs.Putting.{one-more, all-put, nothing-put}
 use Rattle.task_writer.proofs.list.put_arguments.Goals as goal

@@ -1,7 +1,4 @@
-use Rattle.task_writer.proofs.Vocabulary.{◌≡◌, ◌++◌, map, take, Argument}
-use Rattle.task_writer.specs.Lines.{passed_of, variable_names}
-use Rattle.task_writer.specs.Words.{passed_word}
-use Rattle.task_writer.specs.Text.{spaced}
+use Rattle.task_writer.proofs.Vocabulary.{◌≡◌, ◌++◌, map, take, Argument, passed_of, variable_names, passed_word, spaced}
 use Rattle.task_writer.proofs.list.put_arguments.Given as goal
 
 abbrev pub invariant-loop-argument : goal.invariant-loop-argument

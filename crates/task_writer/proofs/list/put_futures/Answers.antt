@@ -1,7 +1,4 @@
-use Rattle.task_writer.proofs.Vocabulary.{ℕ, [], ◌∷◌, ◌++◌, ap, ◌∙◌, Word}
-use Rattle.task_lines.specs.Grammar.{future_word}
-use Rattle.task_writer.specs.Lines.{name_at, variable_names}
-use Rattle.task_writer.specs.Text.{spaced}
+use Rattle.task_writer.proofs.Vocabulary.{ℕ, [], ◌∷◌, ◌++◌, ap, ◌∙◌, Word, future_word, name_at, variable_names, spaced}
 use Rattle.task_writer.proofs.Putting.{one-more, all-put, nothing-put}
 use Rattle.task_writer.proofs.list.put_futures.Goals as goal
 

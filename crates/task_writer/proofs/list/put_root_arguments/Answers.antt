@@ -1,6 +1,4 @@
-use Rattle.task_writer.specs.Lines.{root_names, root_term_of}
-use Rattle.task_writer.specs.Words.{root_term_word}
-use Rattle.task_writer.proofs.Vocabulary.{Word, RootArgument}
+use Rattle.task_writer.proofs.Vocabulary.{Word, RootArgument, root_names, root_term_of, root_term_word}
 use Rattle.task_syntax.specs.declared.program.RootArgument.TheVariants.{Number}
 use Rattle.task_writer.proofs.Putting.{one-more, all-put, nothing-put}
 use Rattle.task_writer.proofs.list.put_root_arguments.Goals as goal

@@ -1,7 +1,4 @@
-use Rattle.task_writer.proofs.Vocabulary.{◌≡◌, ◌++◌, map, take, RootArgument}
-use Rattle.task_writer.specs.Lines.{root_term_of, root_names}
-use Rattle.task_writer.specs.Words.{root_term_word}
-use Rattle.task_writer.specs.Text.{spaced}
+use Rattle.task_writer.proofs.Vocabulary.{◌≡◌, ◌++◌, map, take, RootArgument, root_term_of, root_names, root_term_word, spaced}
 use Rattle.task_writer.proofs.list.put_root_arguments.Given as goal
 
 abbrev pub invariant-loop-argument : goal.invariant-loop-argument

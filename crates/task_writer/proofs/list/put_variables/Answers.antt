@@ -1,6 +1,4 @@
-use Rattle.task_writer.proofs.Vocabulary.{[], ◌∷◌, ◌++◌, ap, ◌∙◌, Variable}
-use Rattle.task_writer.specs.Words.{variable_word}
-use Rattle.task_writer.specs.Text.{spaced}
+use Rattle.task_writer.proofs.Vocabulary.{[], ◌∷◌, ◌++◌, ap, ◌∙◌, Variable, variable_word, spaced}
 use Rattle.task_writer.proofs.Putting.{one-more, nothing-put}
 use Rattle.task_writer.proofs.list.put_variables.Goals as goal
 

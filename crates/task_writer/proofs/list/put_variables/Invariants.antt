@@ -1,6 +1,4 @@
-use Rattle.task_writer.proofs.Vocabulary.{◌≡◌, ◌++◌, map, take, Variable}
-use Rattle.task_writer.specs.Words.{variable_word}
-use Rattle.task_writer.specs.Text.{spaced}
+use Rattle.task_writer.proofs.Vocabulary.{◌≡◌, ◌++◌, map, take, Variable, variable_word, spaced}
 use Rattle.task_writer.proofs.list.put_variables.Given as goal
 
 abbrev pub invariant-loop-variable : goal.invariant-loop-variable

@@ -1,6 +1,4 @@
-use Rattle.task_reader.proofs.Vocabulary.{map, ap, sym, ◌∙◌, length-map, err_from_is_err_and}
-use Rattle.task_reader.specs.Finding.{behind}
-use Rattle.task_reader.specs.Uses.{UsesFuture, passed_use, behind_uses}
+use Rattle.task_reader.proofs.Vocabulary.{map, ap, sym, ◌∙◌, length-map, err_from_is_err_and, behind, UsesFuture, passed_use, behind_uses}
 use Rattle.task_reader.proofs.KnownLemmas.{fault-first, found-behind}
 use Rattle.task_reader.proofs.unknown.WordPlace.passed_known.Goals as goal
 

@@ -1,9 +1,0 @@
-use Rattle.task_lines.proofs.Vocabulary.{◌≡◌, [], length, each}
-use Rattle.task_lines.specs.Line.{is_argument, read_argument}
-use Rattle.task_lines.proofs.list.read_arguments.Given as goal
-
-abbrev pub invariant-words : goal.invariant-words
-invariant-words l = each is_argument read_argument [] l.initial.words ≡ each is_argument read_argument l.found l.words
-
-abbrev pub decreases-words : goal.decreases-words
-decreases-words l = length l.words.left
