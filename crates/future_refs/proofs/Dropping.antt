@@ -1,6 +1,6 @@
 -- The views in the course of a drop.
-use Rattle.std.proofs.Common.{◌≡◌, ◌∙◌, ℕ, ◌+◌, ◌/◌, ◌≤◌, Bool, false, cond, Some, ◌∷◌, refl, sym, ap, subst, arith}
-use Rattle.std.proofs.lemmas.Bool.{eq-eqb}
+use Rattle.std.proofs.Common.{◌≡◌, ◌≢◌, ◌∙◌, ◌⊎◌, inl, inr, ℕ, ◌+◌, ◌/◌, ◌≤◌, Bool, false, cond, Some, List, [], ◌∷◌, refl, sym, ap, subst, arith}
+use Rattle.std.proofs.lemmas.Bool.{eq-eqb, ne_eqb, cases_eq}
 use Rattle.record_core.specs.Counting.{Has, times, one_if, dropped}
 use Rattle.kt_words.specs.declared.plan.Plan.{Plan}
 use Rattle.table_core.specs.Addresses.{Addr, super, bits, state, refs}
@@ -16,7 +16,7 @@ use Rattle.step_table.specs.declared.record_tokens.Retiring.{Retiring}
 use Rattle.step_table.specs.Passes.{view, block_of, HasBlock}
 use Rattle.step_table.specs.Steps.{Releases}
 use Rattle.step_table.specs.RecordSteps.{Retires}
-use Rattle.future_refs.specs.Drops.{freed, Frees}
+use Rattle.future_refs.specs.Drops.{freed, Frees, Drops, GivesBack}
 
 -- a record at its last reference is in the hand to be retired
 pub retires-one : (u found : ℕ) (old : View) (a : Addr) → found ≡ 1 → 1 ≤ times u (saw a found (lessened u found old)).retiring
@@ -73,3 +73,29 @@ frees-from g u found old retiring first second back third unit_is one less retir
 
     its_block : block_of back ≡ block u back.class false
     its_block = retires.block_is ∙ ap (λ (w : ℕ). block w back.class false) unit_is
+
+-- a record of which this was not the last reference is not retired
+not_last : (u found : ℕ) (retiring : List ℕ) → found ≢ 1 → at_last u found retiring ≡ retiring
+not_last u found retiring ne = ap (λ (b : Bool). cond b (u ∷ retiring) retiring) (ne_eqb found 1 ne)
+
+-- in both cases the reference has left the hand
+pub gives-back : (g : Plan) (u : ℕ) (old new : View) → Drops g u old new → GivesBack u old new
+gives-back g u old new drops = by (cases_eq drops.found 1)
+  where
+    by : (drops.found ≡ 1) ⊎ (drops.found ≢ 1) → GivesBack u old new
+    by (inr ne) =
+        let e = drops.more ne in let n : ℕ = drops.found in
+        let settled = ap (λ (v : View). v.settles) e in let seen = ap (λ (v : View). v.seen) e in
+        record {
+          steps = (refs u, n) ∷ [];
+          since = seen;
+          view_is = e ∙ (λ i. record (lessened u n old) { retiring = not_last u n old.retiring ne i; settles = sym settled i; seen = sym seen i });
+        }
+    by (inl one) =
+        let frees = drops.last one in let e = frees.view_is in
+        let settled = ap (λ (v : View). v.settles) e in let seen = ap (λ (v : View). v.seen) e in
+        record {
+          steps = (super (superblock_of g u), frees.count_was) ∷ (bits (superblock_of g u) (bit_of g u frees.class / 64), frees.bits_were) ∷ (super (superblock_of g u), frees.superblock_was) ∷ (state u, frees.state_was) ∷ (refs u, 1) ∷ [];
+          since = seen;
+          view_is = e ∙ (λ i. record (lessened u 0 old) { settles = sym settled i; seen = sym seen i });
+        }

@@ -1,10 +1,11 @@
 -- What a pass has after it dropped a future.
-use Rattle.std.specs.Prelude.{◌≡◌, ◌≢◌, ℕ, ◌/◌, ◌∷◌}
+use Rattle.std.specs.Prelude.{◌≡◌, ◌≢◌, ℕ, ◌/◌, List, ◌∷◌, ◌++◌}
+use Rattle.record_core.specs.Counting.{dropped}
 use Rattle.kt_words.specs.declared.plan.Plan.{Plan}
-use Rattle.table_core.specs.Addresses.{super, bits, state, refs}
+use Rattle.table_core.specs.Addresses.{Addr, super, bits, state, refs}
 use Rattle.table_core.specs.Pool.{superblock_of, bit_of, IsBlock}
 use Rattle.table_core.specs.Views.{place, saw}
-use Rattle.table_core.specs.RecordViews.{lessened}
+use Rattle.table_core.specs.RecordViews.{is_at, left_sights, lessened}
 use Rattle.table_core.specs.declared.view.View.{View}
 
 -- the reference has left the hand, and so has its record: its block of this class is given back, and its place settled
@@ -32,3 +33,15 @@ pub record Drops (g : Plan) (u : ℕ) (old new : View) : Type 0 where
   pub found : ℕ
   pub more : found ≢ 1 → new ≡ saw (refs u) found (lessened u found old)
   pub last : found ≡ 1 → Frees g u old new
+
+-- In both cases the reference has left the hand, with what was seen of the record where it was the hand's last one to it. Beside it
+-- steps and settled places have come.
+pub record GivesBack (u : ℕ) (old new : View) : Type 0 where
+  pub steps : List (Addr × ℕ)
+  pub since : new.seen ≡ steps ++ old.seen
+  pub view_is : new ≡ record old {
+    futures = dropped (is_at u) old.futures;
+    sights = left_sights u (dropped (is_at u) old.futures) old.sights;
+    settles = new.settles;
+    seen = new.seen;
+  }

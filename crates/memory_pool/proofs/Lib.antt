@@ -1,4 +1,5 @@
 pub mod NewestFacts
+pub mod Sounding
 pub mod Searching
 pub mod GoingRound
 pub mod Holding

@@ -49,14 +49,14 @@ sees-more-on old mid new first second = record {
 }
 
 same-on : (old mid new : Pass) → IsSame old mid → IsSame mid new → IsSame old new
-same-on old mid new first second = record { table = second.table ∙ first.table; id = second.id ∙ first.id; splits = second.splits ∙ first.splits; number = second.number ∙ first.number }
+same-on old mid new first second = record { table = second.table ∙ first.table; id = second.id ∙ first.id; splits = second.splits ∙ first.splits; number = second.number ∙ first.number; held_is = second.held_is ∙ first.held_is }
 
 pub like-on : (old mid new : View) → mid ≡ like mid old → new ≡ like new mid → new ≡ like new old
 like-on old mid new first second = second ∙ ap (like new) first
 
 pub sees-self : (p : Pass) → OnlySees p p
 sees-self p = record {
-  same = record { table = refl; id = refl; splits = refl; number = refl };
+  same = record { table = refl; id = refl; splits = refl; number = refl; held_is = refl };
   stays = refl;
   later = record { looks = grows-self (view p).looks; steps = grows-self (view p).seen };
 }

@@ -1,6 +1,7 @@
 //! A reserved place is turned into a block.
 ghost use Rattle.std.specs.Prelude.{◌<◌, ◌≤◌};
 ghost use Rattle.step_table.specs.Passes.{view, plan, place_of, IsOf, IsSame, HasPlace};
+ghost use Rattle.step_table.specs.Sound.{AreSound};
 ghost use Rattle.memory_pool.specs.Searches.{SeesMore, TurnsInto};
 
 use std::sync::Wait;
@@ -41,6 +42,7 @@ pub fn claim_in(shared: &Shared, rt: &impl Wait, pass: &mut Pass, reserved: Rese
     requires table { IsOf shared.now pass.old }
     requires hand { HasPlace (plan shared.now) (place_of reserved) (view pass.old).reserved }
     ensures pass { IsSame pass.old pass.new }
+    ensures sound { AreSound shared.now.setup (view pass.old) (view pass.new) }
     ensures later { SeesMore (view pass.old) (view pass.new) }
     ensures block { TurnsInto (plan shared.now) reserved pass.old result pass.new }
 {

@@ -1,6 +1,7 @@
 ghost use Rattle.std.specs.Prelude.{◌≤◌};
 ghost use Rattle.step_table.specs.Passes.{view, plan, IsOf, IsSame, block_of, HasBlock};
 ghost use Rattle.step_table.specs.Steps.{Releases};
+ghost use Rattle.step_table.specs.Sound.{AreSound};
 ghost use Rattle.memory_pool.specs.Searches.{SeesMore};
 ghost use Rattle.memory_pool.specs.Answers.{Allocates, KeepsRefusal};
 
@@ -16,6 +17,7 @@ pub fn allocate(shared: &Shared, rt: &impl Wait, pass: &mut Pass, class: u8) -> 
     requires table { IsOf shared.now pass.old }
     requires class { class ≤ 3 }
     ensures pass { IsSame pass.old pass.new }
+    ensures sound { AreSound shared.now.setup (view pass.old) (view pass.new) }
     ensures later { SeesMore (view pass.old) (view pass.new) }
     ensures answer { Allocates (plan shared.now) class (view pass.old) result (view pass.new) }
     ensures last { KeepsRefusal (plan shared.now) class result pass.new }
@@ -31,6 +33,7 @@ pub fn release(shared: &Shared, pass: &mut Pass, block: Block)
     requires table { IsOf shared.now pass.old }
     requires hand { HasBlock (plan shared.now) (block_of block) (view pass.old).blocks }
     ensures pass { IsSame pass.old pass.new }
+    ensures sound { AreSound shared.now.setup (view pass.old) (view pass.new) }
     ensures view { Releases (plan shared.now) block pass.old pass.new }
 {
     shared.release_block(pass, block);

@@ -1,6 +1,7 @@
 //! Superblocks are tried one after the other, until a place is reserved.
 ghost use Rattle.std.specs.Prelude.{◌≡◌, ◌<◌, ◌≤◌, IsTrue, IfSome, IfNone};
 ghost use Rattle.step_table.specs.Passes.{view, plan, IsOf, IsSame, TakesOne};
+ghost use Rattle.step_table.specs.Sound.{AreSound};
 ghost use Rattle.memory_pool.specs.Searches.{SeesMore, IsFull, Tries, Follows, IsFirstEmpty};
 ghost use Rattle.memory_pool.specs.Searches.{GoesRound, FindsOnce, SeesNone};
 
@@ -33,6 +34,7 @@ fn try_in(
     requires superblock { superblock < (plan shared.now).geometry.superblocks }
     requires class { class ≤ 3 }
     ensures pass { IsSame pass.old pass.new }
+    ensures sound { AreSound shared.now.setup (view pass.old) (view pass.new) }
     ensures later { SeesMore (view pass.old) (view pass.new) }
     ensures answer { Tries (plan shared.now) superblock class changes pass.old result pass.new }
 {
@@ -88,6 +90,7 @@ fn go_round(
     requires start { start < (plan shared.now).geometry.superblocks }
     requires class { class ≤ 3 }
     ensures pass { IsSame pass.old pass.new }
+    ensures sound { AreSound shared.now.setup (view pass.old) (view pass.new) }
     ensures later { SeesMore (view pass.old) (view pass.new) }
     ensures answer { GoesRound (plan shared.now) class changes pass.old result pass.new }
 {
@@ -124,6 +127,7 @@ pub fn find(shared: &Shared, rt: &impl Wait, pass: &mut Pass, class: u8) -> Opti
     requires table { IsOf shared.now pass.old }
     requires class { class ≤ 3 }
     ensures pass { IsSame pass.old pass.new }
+    ensures sound { AreSound shared.now.setup (view pass.old) (view pass.new) }
     ensures later { SeesMore (view pass.old) (view pass.new) }
     ensures some { IfSome result (λ won. FindsOnce (plan shared.now) class pass.old won pass.new) }
     ensures none { IfNone result (SeesNone (plan shared.now) class pass.old pass.new) }

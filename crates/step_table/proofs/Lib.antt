@@ -1,7 +1,14 @@
 pub mod Stepping
+pub mod LookupFacts
 pub mod LooksFacts
 pub mod RecordStepping
 pub mod TurnFacts
 pub mod Naming
 pub mod ListStepping
-pub mod OpeningWords
+pub mod SeeingStepping
+pub mod TakingStepping
+pub mod PlacingStepping
+pub mod PlacingCovers
+pub mod DrawStepping
+pub mod RowStepping
+pub mod LivingStepping

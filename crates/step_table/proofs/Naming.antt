@@ -9,12 +9,12 @@ use Rattle.table_core.specs.Roots.{root_word}
 use Rattle.table_core.specs.Naming.{MayName}
 use Rattle.table_core.specs.Views.{saw}
 use Rattle.table_core.specs.RecordViews.{is_at, given_to_root, put_root}
-use Rattle.table_core.specs.Parts.{Keeps}
 use Rattle.table_core.specs.declared.setup.Setup.{Setup}
 use Rattle.table_core.specs.declared.view.View.{View}
 use Rattle.table_core.proofs.ListFacts.{length-dropped-has}
 use Rattle.table_core.proofs.ReferenceBound.{units-few}
-use Rattle.table_core.proofs.RootKinds.{names-at}
+use Rattle.schedule_rule.specs.Parts.{Keeps}
+use Rattle.schedule_rule.proofs.NamingKinds.{names-root-at}
 use Rattle.step_table.specs.declared.roots.RootWord.{RootWord}
 use Rattle.step_table.specs.declared.roots.RootWord.TheVariants as word
 use Rattle.step_table.specs.declared.turn.NamedRoot.{NamedRoot}
@@ -28,7 +28,7 @@ name-rule g id v r w n k named packed may in_use =
     subst (λ (m : NamedRoot). Keeps g id v (root r) (λ x. k) (λ x u. (f : ℕ) × (u ≡ saw (root r) f (put_root (says_of m) v)))) (sym named)
     (subst (λ (j : ℕ). Keeps g id v (root r) (λ x. j) (λ x u. (f : ℕ) × (u ≡ saw (root r) f (put_root (says_of (name_of w)) v)))) (sym (packed ∙ ap (λ (m : NamedRoot). root_word (says_of m)) named))
     (subst (λ (j : ℕ). Keeps g id v (root j) (λ x. root_word (says_of (name_of w))) (λ x u. (f : ℕ) × (u ≡ saw (root j) f (put_root (says_of (name_of w)) v)))) (sym may.is_next)
-    (names-at g id v may.asked may.has_turn (says_of (name_of w)) may.inside may.may in_use)))
+    (names-root-at g id v may.asked may.has_turn (says_of (name_of w)) may.inside may.may may.says in_use)))
 
 -- what is named has room in a word
 pub name-fits : (g : Setup) (r : ℕ) (w : RootWord) (v : View) → MayAsk g r w v → FitsName (name_of w)

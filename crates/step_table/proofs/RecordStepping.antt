@@ -4,24 +4,24 @@ use Rattle.std.proofs.lemmas.Bool.{eq-eqb, lt-ltb, le-leb, and_from}
 use Rattle.kt_words.specs.declared.plan.Plan.{Plan}
 use Rattle.kt_words.specs.Capacity.{block_units}
 use Rattle.kt_words.proofs.GeometryFacts.{blocks_end_inside}
-use Rattle.table_core.specs.Addresses.{state, refs, head, next, task, outcome, root, frame, is_there, units_of}
-use Rattle.table_core.specs.Unbuilt.{is_built}
+use Rattle.table_core.specs.Addresses.{state, refs, head, next, task, outcome, root, journal, sum, frame, is_there, units_of}
 use Rattle.table_core.specs.Pool.{superblock_of, bit_of, IsBlock}
 use Rattle.table_core.specs.Holdings.{Made, Run}
 use Rattle.table_core.specs.Own.{is_inside, is_word_of, is_result_of, is_own}
 use Rattle.table_core.specs.Views.{saw}
 use Rattle.table_core.specs.RecordViews.{unmade}
-use Rattle.table_core.specs.Parts.{Keeps}
 use Rattle.table_core.specs.declared.setup.Setup.{Setup}
 use Rattle.table_core.specs.declared.view.View.{View}
 use Rattle.table_core.proofs.AddressFacts.{there_from}
 use Rattle.table_core.proofs.PoolFacts.{superblock_near, bit_below}
 use Rattle.table_core.proofs.Owners.{is_filled}
 use Rattle.table_core.proofs.RecordWords.{or-left, or-right, has-any}
-use Rattle.table_core.proofs.RecordKinds.{unmakes-at}
+use Rattle.schedule_rule.specs.Parts.{Keeps, is_written}
+use Rattle.schedule_rule.proofs.RecordKinds.{unmakes-at}
+use Rattle.step_table.proofs.LookupFacts.{made-there, run-there}
 use Rattle.step_table.specs.declared.record_tokens.OwnWord.{OwnWord}
 use Rattle.step_table.specs.declared.record_tokens.OwnWord.TheVariants as own_word
-use Rattle.step_table.specs.RecordHands.{HasMade, word_of_record, OwnAt, FillsMade, FillsRun, MayFill, ReadsWord, IsOwnRecord, MayRead}
+use Rattle.step_table.specs.RecordHands.{MayUnmake, word_of_record, OwnAt, FillsMade, FillsRun, MayFill, ReadsWord, IsOwnRecord, MayRead}
 
 module _ (g : Plan) where
   pub state-there : (u : ℕ) → u < units_of g → is_there g (state u) ≡ true
@@ -36,6 +36,18 @@ module _ (g : Plan) where
   pub next-there : (u : ℕ) → u < units_of g → is_there g (next u) ≡ true
   next-there u near = there_from g (next u) near (omega arith)
 
+  pub task-there : (u : ℕ) → u < units_of g → is_there g (task u) ≡ true
+  task-there u near = there_from g (task u) near (omega arith)
+
+  pub outcome-there : (u : ℕ) → u < units_of g → is_there g (outcome u) ≡ true
+  outcome-there u near = there_from g (outcome u) near (omega arith)
+
+  pub journal-there : (n j : ℕ) → n ≤ g.limit → j < 5 → is_there g (journal n j) ≡ true
+  journal-there n j few column = there_from g (journal n j) (omega (arith, few)) (omega (arith, column))
+
+  pub sum-there : (k : ℕ) → k < 6 → is_there g (sum k) ≡ true
+  sum-there k few = there_from g (sum k) (omega (arith, few)) (omega arith)
+
   pub root-there : (r : ℕ) → r < 16 → is_there g (root r) ≡ true
   root-there r near = there_from g (root r) near (omega arith)
 
@@ -48,13 +60,13 @@ module _ (g : Plan) where
   own-there u own_word.Head at = there_from g (head u) at (omega arith)
 
   -- steps write each word of a record
-  pub own-built : (word : OwnWord) (u : ℕ) → is_built (word_of_record word u) ≡ true
-  own-built (own_word.Frame j) u = refl
-  own-built own_word.Next u = refl
-  own-built own_word.Task u = refl
-  own-built own_word.Result u = refl
-  own-built own_word.References u = refl
-  own-built own_word.Head u = refl
+  pub own-written : (word : OwnWord) (u : ℕ) → is_written (word_of_record word u) ≡ true
+  own-written (own_word.Frame j) u = refl
+  own-written own_word.Next u = refl
+  own-written own_word.Task u = refl
+  own-written own_word.Result u = refl
+  own-written own_word.References u = refl
+  own-written own_word.Head u = refl
 
   -- a block ends inside the table
   block-inside : (u c : ℕ) → IsBlock g u c → u + block_units c ≤ units_of g
@@ -113,11 +125,11 @@ module _ (g : Plan) where
 
   pub fill-own : (u : ℕ) (word : OwnWord) (v : View) → MayFill g u word v → is_own v.made v.runs (word_of_record word u) ≡ true
   fill-own u word v (inl t) =
-      let has = t.1 in
-      or-left _ _ (has-any (λ (r : Made). is_word_of r.unit (block_units r.class) (word_of_record word u)) v.made t.0 has.there (made-word u (t.0).unit (t.0).class word has.unit_is t.2))
+      let has = made-there u v.made t.0 (t.1).there in
+      or-left _ _ (has-any (λ (r : Made). is_word_of r.unit (block_units r.class) (word_of_record word u)) v.made t.0 has.0 (made-word u (t.0).unit (t.0).class word has.1 t.2))
   fill-own u word v (inr t) =
-      let has = t.1 in
-      or-right _ _ (has-any (λ (r : Run). is_result_of r.unit (block_units r.class) (word_of_record word u)) v.runs t.0 has.there (run-word u (t.0).unit (t.0).class word has.unit_is t.2))
+      let has = run-there u v.runs t.0 (t.1).there in
+      or-right _ _ (has-any (λ (r : Run). is_result_of r.unit (block_units r.class) (word_of_record word u)) v.runs t.0 has.0 (run-word u (t.0).unit (t.0).class word has.1 t.2))
 
   filled-made : (c u : ℕ) (word : OwnWord) → FillsMade c word → is_filled (word_of_record word u) ≡ true
   filled-made c u (own_word.Frame j) low = refl
@@ -150,8 +162,9 @@ module _ (g : Plan) where
       by (inr (inr (inr t))) = at-word u may.0 word (omega (arith, t.2, (t.1).near)) (t.1).near may.2
 
 -- a record that is made, by the unit and the class of the value that names it
-pub unmakes-value : (g : Setup) (id : ℕ) (v : View) (u c : ℕ) (r : Made) → HasMade g.plan u c v r → r.number ≡ 0 → 1 ≤ v.parts
+pub unmakes-value : (g : Setup) (id : ℕ) (v : View) (u c : ℕ) → MayUnmake g.plan u c v → 1 ≤ v.parts
     → Keeps g id v (state u) (λ n. 0) (λ k w. (n : ℕ) × (w ≡ saw (state u) n (unmade u c v)))
-unmakes-value g id v u c r has no_number in_use =
-    subst (λ (x : ℕ). Keeps g id v (state x) (λ n. 0) (λ k w. (n : ℕ) × (w ≡ saw (state x) n (unmade x c v)))) has.unit_is
-    (subst (λ (d : ℕ). Keeps g id v (state r.unit) (λ n. 0) (λ k w. (n : ℕ) × (w ≡ saw (state r.unit) n (unmade r.unit d v)))) has.class_is (unmakes-at g id v r has.there no_number in_use))
+unmakes-value g id v u c may in_use =
+    let r : Made = may.made in let has = made-there u v.made r may.at.there in
+    subst (λ (x : ℕ). Keeps g id v (state x) (λ n. 0) (λ k w. (n : ℕ) × (w ≡ saw (state x) n (unmade x c v)))) has.1
+    (subst (λ (d : ℕ). Keeps g id v (state r.unit) (λ n. 0) (λ k w. (n : ℕ) × (w ≡ saw (state r.unit) n (unmade r.unit d v)))) may.class_is (unmakes-at g id v r has.0 may.no_number may.not_live in_use))

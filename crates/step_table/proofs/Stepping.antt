@@ -1,36 +1,62 @@
 -- A kind of step that keeps the rule may be made on the table.
 use Rattle.std.proofs.Common.{◌≡◌, ◌∙◌, ◌⊎◌, inl, inr, ℕ, ◌/◌, ◌<◌, ◌≤◌, true, ap, arith}
+use Rattle.std.specs.Prelude.{slice_set}
 use Rattle.kt_words.specs.declared.plan.Plan.{Plan}
 use Rattle.atomic_table.specs.Table.{Me, Allows}
-use Rattle.table_core.specs.Addresses.{Addr, super, bits, is_there, words_of}
+use Rattle.table_core.specs.Addresses.{Addr, super, bits, is_there, words_of, put}
 use Rattle.kt_words.specs.Capacity.{block_units}
 use Rattle.kt_words.specs.SuperWords.{FitsSuperWord, packed_super, class_of, count_of}
 use Rattle.kt_words.specs.SuperWordLaws.{SuperWordSays}
 use Rattle.kt_words.specs.declared.super_word.SuperWord.{SuperWord}
 use Rattle.kt_words.proofs.SuperWordFacts.{super_word_says_its_value}
 use Rattle.table_core.specs.Pool.{cap, superblock_of, bit_of, IsBlock}
-use Rattle.table_core.specs.Parts.{Keeps}
 use Rattle.table_core.specs.Steps.{Tells, TellsStored}
 use Rattle.table_core.proofs.PoolFacts.{superblock_near, bit_below}
 use Rattle.std.proofs.Math.Nat.{div-le_self}
 use Rattle.table_core.specs.declared.setup.Setup.{Setup}
 use Rattle.table_core.specs.declared.view.View.{View}
 use Rattle.table_core.proofs.AddressFacts.{address-in, there_from}
-use Rattle.table_core.proofs.Rule.{holds_at, allows, stores}
+use Rattle.table_core.proofs.ListFacts.{set_here}
+use Rattle.schedule_rule.specs.Parts.{Keeps}
+use Rattle.schedule_rule.proofs.Rule.{holds_at, allows, stores}
+use Rattle.schedule_rule.proofs.SoundFacts.{sound-views}
 use Rattle.step_table.specs.Seats.{LiesAt, always}
+use Rattle.step_table.specs.Sound.{AreSound}
 use Rattle.step_table.specs.Passes.{TakesOne}
 
+-- a step that keeps the rule may be made, and tells what it tells
 pub may_step : (g key : Setup) (words slots id word : ℕ) (me : Me (Unit {0}) View) (a : Addr) (f : ℕ → ℕ) (told : ℕ → View → Type 0)
     → key ≡ g → words ≡ words_of g.plan → LiesAt g.plan a word → Keeps g id me.0 a f told
     → (word < words) × Allows (holds_at key) slots id me word f (Tells a told me)
 may_step g key words slots id word me a f told keyed sized lies keeps =
-    (omega (arith, lies.place, sized, address-in g.plan a lies.there), allows g key slots id word me a f told keyed lies.place lies.there lies.built keeps)
+    (omega (arith, lies.place, sized, address-in g.plan a lies.there), allows g key slots id word me a f told keyed lies.place lies.there lies.written keeps)
 
+-- and so may a store, which tells the number that it writes
 pub may_store : (g key : Setup) (words slots id word new : ℕ) (me : Me (Unit {0}) View) (a : Addr) (told : ℕ → View → Type 0)
     → key ≡ g → words ≡ words_of g.plan → LiesAt g.plan a word → Keeps g id me.0 a (always new) (λ n. told new)
     → (word < words) × Allows (holds_at key) slots id me word (always new) (λ n. TellsStored a told me new)
 may_store g key words slots id word new me a told keyed sized lies keeps =
-    (omega (arith, lies.place, sized, address-in g.plan a lies.there), stores g key slots id word new me a told keyed lies.place lies.there lies.built keeps)
+    (omega (arith, lies.place, sized, address-in g.plan a lies.there), stores g key slots id word new me a told keyed lies.place lies.there lies.written keeps)
+
+-- a step that tells one thing tells what follows from it
+pub weaker : (g : Setup) (id : ℕ) (v : View) (a : Addr) (f : ℕ → ℕ) (told less : ℕ → View → Type 0) → ((n : ℕ) (w : View) → told n w → less n w) → Keeps g id v a f told → Keeps g id v a f less
+weaker g id v a f told less follows keeps m vs s says at small = let step = keeps m vs s says at small in (step.0, step.1, follows (m a) step.0 step.2, step.3)
+
+-- a step that keeps the rule tells besides that the views before and after it are sound
+pub tells-sound : (g : Setup) (id : ℕ) (v : View) (a : Addr) (f : ℕ → ℕ) (told : ℕ → View → Type 0) → Keeps g id v a f told → Keeps g id v a f (λ n w. told n w × AreSound g v w)
+tells-sound g id v a f told keeps m vs s says at small =
+    let step = keeps m vs s says at small in (
+      step.0,
+      step.1,
+      (
+        step.2,
+        record {
+          before = sound-views g m vs id v (s, says) at;
+          after = sound-views g (put m a (f (m a))) (slice_set vs id step.0) id step.0 (step.1.0, step.1.2) (set_here vs id v step.0 at);
+        },
+      ),
+      step.3,
+    )
 
 -- the words of the pool are there
 pub super-there : (g : Plan) (i : ℕ) → i < g.geometry.superblocks → is_there g (super i) ≡ true

@@ -9,9 +9,12 @@ use Rattle.table_core.specs.Lists.{Each}
 use Rattle.table_core.specs.Holdings.{Waiter, Run, Done, Sight, SawHead, SawTask, SawDone}
 use Rattle.table_core.specs.WaitLists.{link_to}
 use Rattle.table_core.specs.declared.view.View.{View}
+use Rattle.schedule_rule.specs.LifeViews.{KnowsBehind, KnowsEnd}
 use Rattle.step_table.specs.declared.record_tokens.Started.{Started}
 use Rattle.step_table.specs.declared.record_tokens.Chain.{Chain}
-use Rattle.step_table.specs.RecordHands.{HasWaiter, HasRun, HasDone}
+use Rattle.step_table.specs.declared.ending.Ending.{Ending}
+use Rattle.step_table.specs.Endings.{outcome_of}
+use Rattle.step_table.specs.RecordHands.{HasFuture, WaiterAt, RunAt, DoneAt}
 
 abbrev pub IsOpenHead : HeadWord → Type 0
 IsOpenHead word = packed_head word ≢ closed_word
@@ -33,21 +36,30 @@ MayLinkTo word v = FitsHeadWord word × IsOpenHead word × IsLastHead (packed_he
 
 -- the record at the unit waits in the hand
 abbrev pub IsWaiter : Plan → ℕ → View → Type 0
-IsWaiter g unit v = (w : Waiter) × HasWaiter g unit v w
+IsWaiter g unit v = (w : Waiter) × WaiterAt g unit v w
 
 -- it is done in the hand, and its list is still to be closed
 abbrev pub IsUnclosed : Plan → ℕ → View → Type 0
-IsUnclosed g unit v = (d : Done) × HasDone g unit v d × (d.closed ≡ false)
+IsUnclosed g unit v = (d : Done) × DoneAt g unit v d × (d.closed ≡ false)
 
--- it runs in the hand, under this number
-abbrev pub IsRunning : Plan → Started → View → Type 0
-IsRunning g started v = (r : Run) × HasRun g started.unit v r × (r.number ≡ started.number)
-
--- the record at the unit waits in the hand, linked to this head
-pub record HasLinked (g : Plan) (unit head : ℕ) (v : View) : Type 0 where
+-- The waiter at the unit w was linked to this head of the record at u, an open one. Its call is behind the task that was seen there.
+pub record MayPush (g : Plan) (u w : ℕ) (word : HeadWord) (v : View) : Type 0 where
+  pub future : HasFuture g u v
   pub waiter : Waiter
-  pub has : HasWaiter g unit v waiter
-  pub linked_to : waiter.linked ≡ Some head
+  pub at : WaiterAt g w v waiter
+  pub linked_to : waiter.linked ≡ Some (packed_head word)
+  pub fits : FitsHeadWord word
+  pub opened : IsOpenHead word
+  pub seen : Has (SawHead u (packed_head word)) v.sights
+  pub behind : KnowsBehind v u waiter.number
+
+-- The run in the hand has this number, and none that it asked for is unplaced. The pass knows why the task ends so.
+pub record MayFinish (g : Plan) (started : Started) (ending : Ending) (v : View) : Type 0 where
+  pub run : Run
+  pub at : RunAt g started.unit v run
+  pub number_is : run.number ≡ started.number
+  pub placed : run.unplaced ≡ 0
+  pub knows : KnowsEnd v run (outcome_of ending)
 
 -- a chain with members is in the hand; one without is nothing there
 abbrev pub StandsChain : List ℕ → View → Type 0

@@ -31,12 +31,17 @@ pub record IsMadeWith (t : Shared) (checked : Program) (columns : Columns) (plan
 abbrev pub IsOf : Shared → Pass → Type 0
 IsOf t p = p.seat.table_id ≡ t.table.shared.table_id
 
--- the same pass, which may hold and know something else
-pub record IsSame (old new : Pass) : Type 0 where
+-- the same pass, which may hold and know something else, and has so many references at most
+pub record IsSameWith (held : ℕ) (old new : Pass) : Type 0 where
   pub table : new.seat.table_id ≡ old.seat.table_id
   pub id : new.seat.id ≡ old.seat.id
   pub splits : new.splits ≡ old.splits
   pub number : new.number ≡ old.number
+  pub held_is : new.held ≡ held
+
+-- and so many as before
+abbrev pub IsSame : Pass → Pass → Type 0
+IsSame old new = IsSameWith old.held old new
 
 -- what the values name
 abbrev pub place_of : Reserved → Place

@@ -1,52 +1,63 @@
 -- What the values of records name in a pass's hand, and which of their words may be written and read.
-use Rattle.std.specs.Prelude.{◌≡◌, ℕ, ◌+◌, ◌*◌, ◌<◌, ◌≤◌, ◌⊎◌, true}
-use Rattle.record_core.specs.Counting.{Has, times}
+use Rattle.std.specs.Prelude.{◌≡◌, ℕ, ◌+◌, ◌*◌, ◌<◌, ◌≤◌, ◌⊎◌, true, false, Some}
+use Rattle.record_core.specs.Counting.{times}
 use Rattle.kt_words.specs.declared.plan.Plan.{Plan}
 use Rattle.kt_words.specs.Capacity.{block_units}
 use Rattle.table_core.specs.Addresses.{Addr, units_of, frame, next, task, outcome, refs, head}
 use Rattle.table_core.specs.Pool.{IsBlock}
 use Rattle.table_core.specs.Holdings.{Made, Waiter, Run, Done}
+use Rattle.table_core.specs.RecordViews.{lessened}
+use Rattle.table_core.specs.declared.setup.Setup.{Setup}
 use Rattle.table_core.specs.declared.view.View.{View}
+use Rattle.schedule_rule.specs.PlacingLaws.{StillCovers}
 use Rattle.step_table.specs.declared.record_tokens.OwnWord.{OwnWord}
 use Rattle.step_table.specs.declared.record_tokens.OwnWord.TheVariants as own_word
+use Rattle.step_table.specs.Lookups.{made_in, waiter_in, run_in, done_in}
 
--- the record at the unit is made, in a block of the class, by the pass
-pub record HasMade (g : Plan) (unit class : ℕ) (v : View) (r : Made) : Type 0 where
-  pub is_block : IsBlock g unit class
-  pub there : Has r v.made
-  pub unit_is : r.unit ≡ unit
-  pub class_is : r.class ≡ class
+-- the record at the unit is made by the pass
+pub record MadeAt (g : Plan) (u : ℕ) (v : View) (r : Made) : Type 0 where
+  pub is_block : IsBlock g u r.class
+  pub there : made_in u v.made ≡ Some r
 
--- it has no number yet
-abbrev pub HasNew : Plan → ℕ → ℕ → View → Type 0
-HasNew g unit class v = (r : Made) × HasMade g unit class v r × (r.number ≡ 0)
+-- It runs in the hand.
+pub record RunAt (g : Plan) (u : ℕ) (v : View) (r : Run) : Type 0 where
+  pub is_block : IsBlock g u r.class
+  pub there : run_in u v.runs ≡ Some r
 
--- it runs
-pub record HasRun (g : Plan) (unit : ℕ) (v : View) (r : Run) : Type 0 where
-  pub is_block : IsBlock g unit r.class
-  pub there : Has r v.runs
-  pub unit_is : r.unit ≡ unit
+-- It waits there, and stands in no list.
+pub record WaiterAt (g : Plan) (u : ℕ) (v : View) (w : Waiter) : Type 0 where
+  pub near : u < units_of g
+  pub there : waiter_in u v.waiting ≡ Some w
 
--- it waits, and stands in no list
-pub record HasWaiter (g : Plan) (unit : ℕ) (v : View) (w : Waiter) : Type 0 where
-  pub near : unit < units_of g
-  pub there : Has w v.waiting
-  pub unit_is : w.unit ≡ unit
+-- It is done, with the scheduler's own reference.
+pub record DoneAt (g : Plan) (u : ℕ) (v : View) (d : Done) : Type 0 where
+  pub near : u < units_of g
+  pub there : done_in u v.done ≡ Some d
 
--- it is done, with the scheduler's own reference
-pub record HasDone (g : Plan) (unit : ℕ) (v : View) (d : Done) : Type 0 where
-  pub near : unit < units_of g
-  pub there : Has d v.done
-  pub unit_is : d.unit ≡ unit
+-- a made record in a block of this class may be a block again: it has no number, and does not count as living
+pub record MayUnmake (g : Plan) (u class : ℕ) (v : View) : Type 0 where
+  pub made : Made
+  pub at : MadeAt g u v made
+  pub class_is : made.class ≡ class
+  pub no_number : made.number ≡ 0
+  pub not_live : made.live ≡ false
 
--- and its list is closed
-abbrev pub HasClosed : Plan → ℕ → View → Type 0
-HasClosed g unit v = (d : Done) × HasDone g unit v d × (d.closed ≡ true)
+-- the scheduler's reference to a done record may be given up: its list is closed, and it counts as living no more
+pub record MayGiveUp (g : Plan) (u : ℕ) (v : View) : Type 0 where
+  pub done : Done
+  pub at : DoneAt g u v done
+  pub closed : done.closed ≡ true
+  pub out : done.out ≡ true
 
 -- the pass has a reference to it
 pub record HasFuture (g : Plan) (unit : ℕ) (v : View) : Type 0 where
   pub near : unit < units_of g
   pub there : 1 ≤ times unit v.futures
+
+-- and may give it up: the references that are left are enough for its running frames, if they were before
+pub record MayLessen (g : Setup) (u : ℕ) (v : View) : Type 0 where
+  pub has : HasFuture g.plan u v
+  pub spare : StillCovers g v (lessened u 0 v)
 
 -- the pass gave up the last reference to it
 pub record HasRetiring (g : Plan) (unit : ℕ) (v : View) : Type 0 where
@@ -80,7 +91,7 @@ FillsRun class own_word.Result = Unit {0}
 FillsRun class word = ⊥
 
 abbrev pub MayFill : Plan → ℕ → OwnWord → View → Type 0
-MayFill g u word v = ((r : Made) × HasMade g u r.class v r × FillsMade r.class word) ⊎ ((r : Run) × HasRun g u v r × FillsRun r.class word)
+MayFill g u word v = ((r : Made) × MadeAt g u v r × FillsMade r.class word) ⊎ ((r : Run) × RunAt g u v r × FillsRun r.class word)
 
 -- What may be read: any word of a record of the pass, of the frame inside its block. Of a record that waits or is done the pass
 -- does not know the class, so of its frame the words of its first unit alone.
@@ -89,8 +100,8 @@ ReadsWord units (own_word.Frame j) = j < 8 * units
 ReadsWord units word = Unit {0}
 
 abbrev pub IsOwnRecord : Plan → ℕ → View → ℕ → Type 0
-IsOwnRecord g u v units = ((r : Made) × HasMade g u r.class v r × (units ≡ block_units r.class))
-    ⊎ (((r : Run) × HasRun g u v r × (units ≡ block_units r.class)) ⊎ (((w : Waiter) × HasWaiter g u v w × (units ≡ 1)) ⊎ ((d : Done) × HasDone g u v d × (units ≡ 1))))
+IsOwnRecord g u v units = ((r : Made) × MadeAt g u v r × (units ≡ block_units r.class))
+    ⊎ (((r : Run) × RunAt g u v r × (units ≡ block_units r.class)) ⊎ (((w : Waiter) × WaiterAt g u v w × (units ≡ 1)) ⊎ ((d : Done) × DoneAt g u v d × (units ≡ 1))))
 
 abbrev pub MayRead : Plan → ℕ → OwnWord → View → Type 0
 MayRead g u word v = (units : ℕ) × IsOwnRecord g u v units × ReadsWord units word

@@ -10,6 +10,7 @@ use Rattle.table_core.specs.Views.{saw}
 use Rattle.table_core.specs.RecordViews.{put_root}
 use Rattle.table_core.specs.declared.setup.Setup.{Setup}
 use Rattle.table_core.specs.declared.view.View.{View}
+use Rattle.schedule_rule.specs.NamingLaws.{MaySay}
 use Rattle.step_table.specs.declared.pass.Pass.{Pass}
 use Rattle.step_table.specs.declared.record_tokens.Future.{Future}
 use Rattle.step_table.specs.declared.turn.NamedRoot.{NamedRoot}
@@ -47,6 +48,7 @@ pub record MayAsk (g : Setup) (r : ℕ) (w : RootWord) (v : View) : Type 0 where
   pub is_next : r ≡ length asked
   pub inside : length asked < g.plan.roots
   pub may : MayName g asked v (says_of (name_of w))
+  pub says : MaySay g asked v (says_of (name_of w))
 
 -- the root is asked for
 pub record Names (r : ℕ) (w : RootWord) (old new : Pass) : Type 0 where

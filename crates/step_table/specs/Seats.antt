@@ -3,10 +3,9 @@ use Rattle.std.specs.Prelude.{◌≡◌, ℕ, ◌+◌, ◌-◌, ◌%◌, ◌^◌
 use Rattle.atomic_table.specs.declared.shared.Seat.{Seat}
 use Rattle.kt_words.specs.declared.plan.Plan.{Plan}
 use Rattle.table_core.specs.Addresses.{Addr, address, is_there}
-use Rattle.table_core.specs.Unbuilt.{is_built}
-use Rattle.table_core.specs.Parts.{Keeps}
 use Rattle.table_core.specs.declared.setup.Setup.{Setup}
 use Rattle.table_core.specs.declared.view.View.{View}
+use Rattle.schedule_rule.specs.Parts.{Keeps, is_written}
 
 -- the seat of the same pass, which may hold and know something else
 pub record IsSameSeat (old new : Seat (Unit {0}) View) : Type 0 where
@@ -39,4 +38,4 @@ always k n = k
 pub record LiesAt (g : Plan) (a : Addr) (word : ℕ) : Type 0 where
   pub place : word ≡ address g a
   pub there : is_there g a ≡ true
-  pub built : is_built a ≡ true
+  pub written : is_written a ≡ true

@@ -1,15 +1,14 @@
 //! The steps on wait lists.
 ghost use Rattle.std.specs.Prelude.{◌≡◌, ◌≢◌, ◌≤◌, ◌<◌, ◌+◌, ◌^◌, ◌↔◌, IsSome, IfSome, IfNone};
-ghost use Rattle.record_core.specs.Counting.{Has};
-ghost use Rattle.kt_words.specs.HeadWords.{FitsHeadWord, IsHeadWord, closed_word, head_word, link_code, link_of, length_of, packed_head};
-ghost use Rattle.table_core.specs.Holdings.{SawHead};
+ghost use Rattle.kt_words.specs.HeadWords.{IsHeadWord, closed_word, head_word, link_code, link_of, length_of};
 ghost use Rattle.step_table.specs.ListSteps.{SeesHead, Links, Pushed, TakesList, TakesFirst, Finishes};
 
+use crate::ending::Ending;
 use crate::pass::Pass;
 use crate::record_layout::{own_word, state_word};
 use crate::record_tokens::{Chain, Finishing, Future, Linkable, OwnWord, Started};
 use crate::shared::Shared;
-use kt_words::{HeadWord, Phase, StateWord, Tag};
+use kt_words::{HeadWord, Phase, StateWord};
 use std::marker::Brand;
 
 // What one more on a list adds to the word of its head. Below it is the link to the first.
@@ -40,13 +39,15 @@ fn chain_of(head: u64) -> Chain
 impl Shared {
     ghost use Rattle.step_table.specs.Passes.{view, plan, IsOf, IsSame};
     ghost use Rattle.step_table.specs.RecordHands.{HasFuture};
-    ghost use Rattle.step_table.specs.ListHands.{IsOpenHead, MayLinkTo, HasLinked, IsWaiter, IsUnclosed, IsRunning, IsChain};
+    ghost use Rattle.step_table.specs.ListHands.{MayLinkTo, MayPush, IsWaiter, IsUnclosed, MayFinish, IsChain};
+    ghost use Rattle.step_table.specs.Sound.{AreSound};
 
     /// Loads the head of the list of a record. The pass keeps it as a sight.
     pub fn see_head(&self, pass: &mut Pass, future: &Future) -> HeadWord
         requires table { IsOf self.now pass.old }
         requires hand { HasFuture (plan self.now) future.now.unit (view pass.old) }
         ensures pass { IsSame pass.old pass.new }
+        ensures sound { AreSound self.now.setup (view pass.old) (view pass.new) }
         ensures head { SeesHead (plan self.now) future.now.unit pass.old result pass.new }
     {
         let unit = future.unit;
@@ -61,6 +62,7 @@ impl Shared {
         requires hand { IsWaiter (plan self.now) waiter.now.unit (view pass.old) }
         requires seen { MayLinkTo seen (view pass.old) }
         ensures pass { IsSame pass.old pass.new }
+        ensures sound { AreSound self.now.setup (view pass.old) (view pass.new) }
         ensures view { Links waiter.now seen pass.old pass.new }
     {
         let unit = waiter.unit;
@@ -70,8 +72,8 @@ impl Shared {
         self.store_as::<Brand, _>(&mut pass.seat, word, link, &(unit, head));
     }
 
-    /// Puts a waiter first on the list of a record whose head is as it was seen. Err: it is now a
-    /// later one, which is returned with the waiter.
+    /// Puts a waiter first on the list of the record of the task that its call is behind, where the
+    /// head is as it was seen. Err: it is now a later one, which is returned with the waiter.
     pub fn push_head(
         &self,
         pass: &mut Pass,
@@ -80,11 +82,9 @@ impl Shared {
         seen: HeadWord,
     ) -> Result<(), (Linkable, HeadWord)>
         requires table { IsOf self.now pass.old }
-        requires future { HasFuture (plan self.now) future.now.unit (view pass.old) }
-        requires waiter { HasLinked (plan self.now) waiter.unit (packed_head seen) (view pass.old) }
-        requires opened { FitsHeadWord seen × IsOpenHead seen }
-        requires seen { Has (SawHead future.now.unit (packed_head seen)) (view pass.old).sights }
+        requires may { MayPush (plan self.now) future.now.unit waiter.unit seen (view pass.old) }
         ensures pass { IsSame pass.old pass.new }
+        ensures sound { AreSound self.now.setup (view pass.old) (view pass.new) }
         ensures push { Pushed (plan self.now) future.now.unit waiter seen pass.old result pass.new }
     {
         let unit = future.unit;
@@ -105,6 +105,7 @@ impl Shared {
         requires table { IsOf self.now pass.old }
         requires hand { IsUnclosed (plan self.now) finishing.unit (view pass.old) }
         ensures pass { IsSame pass.old pass.new }
+        ensures sound { AreSound self.now.setup (view pass.old) (view pass.new) }
         ensures chain { TakesList (plan self.now) finishing pass.old result pass.new }
     {
         let unit = finishing.unit;
@@ -123,6 +124,7 @@ impl Shared {
         ensures exactly { IsSome result ↔ (1 ≤ chain.length) }
         ensures none { IfNone result (view pass.new ≡ view pass.old) }
         ensures some { IfSome result (λ t. TakesFirst (plan self.now) chain pass.old t pass.new) }
+        ensures sound { IfSome result (λ t. AreSound self.now.setup (view pass.old) (view pass.new)) }
     {
         let unit = chain.first?;
         let word = own_word(&self.setup.plan, unit, OwnWord::Next);
@@ -134,22 +136,24 @@ impl Shared {
         Some((Linkable { unit }, rest))
     }
 
-    /// Says that a running record is done, with a result of this kind.
-    pub fn finish(&self, pass: &mut Pass, started: Started, tag: Tag) -> Finishing
+    /// Says that a running record is done, and how its task ended.
+    pub fn finish(&self, pass: &mut Pass, started: Started, ending: Ending) -> Finishing
         requires table { IsOf self.now pass.old }
-        requires hand { IsRunning (plan self.now) started (view pass.old) }
+        requires may { MayFinish (plan self.now) started ending (view pass.old) }
         ensures pass { IsSame pass.old pass.new }
-        ensures done { Finishes (plan self.now) started pass.old result pass.new }
+        ensures done { Finishes (plan self.now) started ending pass.old result pass.new }
+        ensures sound { AreSound self.now.setup (view pass.old) (view pass.new) }
     {
         let unit = started.unit;
         let word = state_word(&self.setup.plan, unit);
+        let tag = ending.tag();
         let done = StateWord {
             phase: Phase::Complete,
             priority: 0,
             tag,
             number: started.number,
         };
-        self.store_as::<Brand, _>(&mut pass.seat, word, done.pack(), &unit);
+        self.store_as::<Brand, _>(&mut pass.seat, word, done.pack(), &(unit, ending));
         Finishing { unit }
     }
 }

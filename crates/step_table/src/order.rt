@@ -1,5 +1,5 @@
-ghost use Rattle.table_core.specs.Parts.{Holds};
-ghost use Rattle.table_core.specs.Opened.{opened_view};
+ghost use Rattle.table_core.specs.Views.{first_view};
+ghost use Rattle.schedule_rule.specs.Parts.{Holds};
 
 use atomic_table::TableRule;
 use table_core::{Setup, View};
@@ -10,5 +10,5 @@ pub struct Order;
 impl TableRule<(), View, Setup> for Order {
     ghost holds = { λ g s. Holds g s.words s.views };
 
-    ghost first = { λ g. opened_view g.opened.items };
+    ghost first = { λ g. first_view };
 }

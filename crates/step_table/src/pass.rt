@@ -19,19 +19,21 @@ pub struct Pass {
     pub(crate) number: u32,
     pub(crate) starts: [u32; 4],
     pub(crate) last: LastLooks,
-    // How many references it has.
+    // It has no more references than this.
     pub(crate) held: u64,
     // What it knows of the roots, where it has the turn of asking for them.
     pub(crate) turn: Option<Turn>,
     pub ghost bare: { seat.me.1 ≡ [] },
     pub ghost shares: { splits + 1 ≡ seat.me.0.parts },
-    pub ghost counts: { held ≡ length seat.me.0.futures },
+    pub ghost counts: { length seat.me.0.futures ≤ held },
     pub ghost turns: { turn_of turn ≡ seat.me.0.turn },
     pub ghost ages: { seat.me.0.old_looks ≤ length seat.me.0.looks },
     pub ghost looks: { KeepsNewest last seat.me.0.old_looks seat.me.0.looks },
 }
 
 impl Pass {
+    ghost use Rattle.step_table.specs.Passes.{view, IsSameWith};
+
     /// How often this pass may be split. The numbers of all passes of a table, each with one more,
     /// are 4,096 together.
     pub fn splits(&self) -> u32
@@ -47,12 +49,22 @@ impl Pass {
         self.number
     }
 
-    /// How many references the pass has.
+    /// A number of references that the pass has at most.
     pub fn held(&self) -> u64
         ensures count { result ≡ self.now.held }
-        ensures references { result ≡ length self.now.seat.me.0.futures }
+        ensures references { length (view self.now).futures ≤ result }
     {
         self.held
+    }
+
+    /// The pass counts so many references from now on, which are as many as it has or more.
+    pub fn keep_count(&mut self, held: u64)
+        requires { length (view self.old).futures ≤ held }
+        ensures pass { IsSameWith held self.old self.new }
+        ensures view { view self.new ≡ view self.old }
+        ensures starts { self.new.starts ≡ self.old.starts }
+    {
+        self.held = held;
     }
 
     /// The superblock where this pass last reserved a place of the class.

@@ -1,6 +1,7 @@
 //! Passes are split and joined.
 ghost use Rattle.std.specs.Prelude.{◌≡◌, ◌+◌, ◌<◌};
 ghost use Rattle.table_core.specs.Views.{kept_half, idle_half, HasOnlyBlocks};
+ghost use Rattle.schedule_rule.specs.SoundViews.{SoundView};
 
 use crate::halves::Halves;
 use crate::layout::super_word;
@@ -25,6 +26,7 @@ impl Shared {
         ensures numbers { (result.0.number ≡ pass.number) × (result.1.number ≡ pass.splits) }
         ensures last { (result.0.last ≡ pass.last) × (result.1.last ≡ pass.last) }
         ensures starts { result.0.starts ≡ pass.starts }
+        ensures held { (result.0.held ≡ pass.held) × (result.1.held ≡ 0) }
     {
         let Pass {
             mut seat,
@@ -68,6 +70,8 @@ impl Shared {
         ensures splits { result.splits ≡ keep.splits + other.splits + 1 }
         ensures number { result.number ≡ keep.number }
         ensures last { (result.last ≡ keep.last) × (result.starts ≡ keep.starts) }
+        ensures held { result.held ≡ keep.held }
+        ensures sound { SoundView self.now.setup (view result) }
     {
         let Pass {
             mut seat,

@@ -12,6 +12,7 @@ use std::marker::Brand;
 
 impl Shared {
     ghost use Rattle.step_table.specs.Passes.{view, plan, IsOf, IsSame, place_of, owed_by, block_of, HasPlace, HasBlock, TakesOne};
+    ghost use Rattle.step_table.specs.Sound.{AreSound};
     ghost use Rattle.step_table.specs.Steps.{Looks, Reserves, FindsOther, Claims, FindsSet, Clears, Settles, Releases};
 
     /// Loads the word of a superblock. The pass keeps it as a look for this class.
@@ -20,6 +21,7 @@ impl Shared {
         requires superblock { superblock < (plan self.now).geometry.superblocks }
         requires class { class ≤ 3 }
         ensures pass { IsSame pass.old pass.new }
+        ensures sound { AreSound self.now.setup (view pass.old) (view pass.new) }
         ensures word { FitsSuperWord result }
         ensures view { Looks superblock class pass.old result pass.new }
     {
@@ -44,6 +46,7 @@ impl Shared {
         requires seen { FitsSuperWord seen }
         requires room { TakesOne (plan self.now) seen class }
         ensures pass { IsSame pass.old pass.new }
+        ensures sound { AreSound self.now.setup (view pass.old) (view pass.new) }
         ensures ok { IfOk result (λ won. Reserves superblock class seen pass.old won pass.new) }
         ensures err { IfErr result (λ word. FindsOther superblock seen pass.old word pass.new) }
     {
@@ -78,6 +81,7 @@ impl Shared {
         requires hand { HasPlace (plan self.now) (place_of reserved) (view pass.old).reserved }
         requires bit { bit < cap (plan self.now) reserved.class }
         ensures pass { IsSame pass.old pass.new }
+        ensures sound { AreSound self.now.setup (view pass.old) (view pass.new) }
         ensures ok { IfOk result (λ b. Claims (plan self.now) reserved bit pass.old b pass.new) }
         ensures err { IfErr result (λ lost. FindsSet reserved bit pass.old lost pass.new) }
     {
@@ -108,6 +112,7 @@ impl Shared {
         requires table { IsOf self.now pass.old }
         requires hand { HasBlock (plan self.now) (block_of block) (view pass.old).blocks }
         ensures pass { IsSame pass.old pass.new }
+        ensures sound { AreSound self.now.setup (view pass.old) (view pass.new) }
         ensures view { Clears (plan self.now) block pass.old result pass.new }
     {
         let units = self.setup.plan.geometry.units;
@@ -127,6 +132,7 @@ impl Shared {
         requires table { IsOf self.now pass.old }
         requires hand { HasPlace (plan self.now) (owed_by debt) (view pass.old).debts }
         ensures pass { IsSame pass.old pass.new }
+        ensures sound { AreSound self.now.setup (view pass.old) (view pass.new) }
         ensures view { Settles debt pass.old pass.new }
     {
         let word = super_word(&self.setup.plan, debt.superblock);
@@ -138,6 +144,7 @@ impl Shared {
         requires table { IsOf self.now pass.old }
         requires hand { HasBlock (plan self.now) (block_of block) (view pass.old).blocks }
         ensures pass { IsSame pass.old pass.new }
+        ensures sound { AreSound self.now.setup (view pass.old) (view pass.new) }
         ensures view { Releases (plan self.now) block pass.old pass.new }
     {
         let debt = self.clear(pass, block);

@@ -1,14 +1,16 @@
-//! One function for each atomic operation on one word. What a step tells is picked by its call.
+//! The same operations, which tell besides that the views before and after are sound.
 ghost use Rattle.std.specs.Prelude.{◌≡◌, ◌==◌, bit_and, bit_or};
 ghost use prog.Atomic.{either};
 
 use crate::shared::Shared;
-use crate::told::{Told, Wish};
+use crate::told::Wish;
 use atomic_table::Seat;
+use std::marker::Brand;
 use table_core::View;
 
 impl Shared {
     ghost use Rattle.step_table.specs.Seats.{IsSameSeat, HasSeen, LiesAt, MayStep, less_by};
+    ghost use Rattle.step_table.specs.Sound.{AreSound};
 
     pub(crate) fn load_as<W: Wish, A>(
         &self,
@@ -22,8 +24,9 @@ impl Shared {
         ensures same { IsSameSeat seat.old seat.new }
         ensures seen { HasSeen W.at result seat.old.me.0 seat.new.me.0 }
         ensures told { W.told result seat.new.me.0 }
+        ensures sound { AreSound self.now.setup seat.old.me.0 seat.new.me.0 }
     {
-        self.table.shared.load::<Told<W>>(seat, word)
+        self.load_of::<Brand>(seat, word)
     }
 
     pub(crate) fn compare_exchange_as<W: Wish, A>(
@@ -40,10 +43,9 @@ impl Shared {
         ensures same { IsSameSeat seat.old seat.new }
         ensures seen { HasSeen W.at result seat.old.me.0 seat.new.me.0 }
         ensures told { W.told result seat.new.me.0 }
+        ensures sound { AreSound self.now.setup seat.old.me.0 seat.new.me.0 }
     {
-        self.table
-            .shared
-            .compare_exchange::<Told<W>>(seat, word, old, new)
+        self.compare_exchange_of::<Brand>(seat, word, old, new)
     }
 
     pub(crate) fn fetch_or_as<W: Wish, A>(
@@ -59,8 +61,9 @@ impl Shared {
         ensures same { IsSameSeat seat.old seat.new }
         ensures seen { HasSeen W.at result seat.old.me.0 seat.new.me.0 }
         ensures told { W.told result seat.new.me.0 }
+        ensures sound { AreSound self.now.setup seat.old.me.0 seat.new.me.0 }
     {
-        self.table.shared.fetch_or::<Told<W>>(seat, word, mask)
+        self.fetch_or_of::<Brand>(seat, word, mask)
     }
 
     pub(crate) fn fetch_and_as<W: Wish, A>(
@@ -76,8 +79,9 @@ impl Shared {
         ensures same { IsSameSeat seat.old seat.new }
         ensures seen { HasSeen W.at result seat.old.me.0 seat.new.me.0 }
         ensures told { W.told result seat.new.me.0 }
+        ensures sound { AreSound self.now.setup seat.old.me.0 seat.new.me.0 }
     {
-        self.table.shared.fetch_and::<Told<W>>(seat, word, mask)
+        self.fetch_and_of::<Brand>(seat, word, mask)
     }
 
     pub(crate) fn fetch_sub_as<W: Wish, A>(
@@ -93,7 +97,8 @@ impl Shared {
         ensures same { IsSameSeat seat.old seat.new }
         ensures seen { HasSeen W.at result seat.old.me.0 seat.new.me.0 }
         ensures told { W.told result seat.new.me.0 }
+        ensures sound { AreSound self.now.setup seat.old.me.0 seat.new.me.0 }
     {
-        self.table.shared.fetch_sub::<Told<W>>(seat, word, k)
+        self.fetch_sub_of::<Brand>(seat, word, k)
     }
 }

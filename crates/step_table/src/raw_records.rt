@@ -1,13 +1,15 @@
-//! The atomic operations that only steps on records make.
+//! Those of them that only steps on records make.
 ghost use Rattle.std.specs.Prelude.{◌≡◌, ℕ};
 
 use crate::shared::Shared;
-use crate::told::{Stored, Told, Wish};
+use crate::told::Wish;
 use atomic_table::Seat;
+use std::marker::Brand;
 use table_core::View;
 
 impl Shared {
     ghost use Rattle.step_table.specs.Seats.{IsSameSeat, HasSeen, LiesAt, MayStep, more_by, always};
+    ghost use Rattle.step_table.specs.Sound.{AreSound};
 
     pub(crate) fn fetch_add_as<W: Wish, A>(
         &self,
@@ -22,8 +24,9 @@ impl Shared {
         ensures same { IsSameSeat seat.old seat.new }
         ensures seen { HasSeen W.at result seat.old.me.0 seat.new.me.0 }
         ensures told { W.told result seat.new.me.0 }
+        ensures sound { AreSound self.now.setup seat.old.me.0 seat.new.me.0 }
     {
-        self.table.shared.fetch_add::<Told<W>>(seat, word, k)
+        self.fetch_add_of::<Brand>(seat, word, k)
     }
 
     pub(crate) fn swap_as<W: Wish, A>(
@@ -39,11 +42,11 @@ impl Shared {
         ensures same { IsSameSeat seat.old seat.new }
         ensures seen { HasSeen W.at result seat.old.me.0 seat.new.me.0 }
         ensures told { W.told result seat.new.me.0 }
+        ensures sound { AreSound self.now.setup seat.old.me.0 seat.new.me.0 }
     {
-        self.table.shared.swap::<Told<W>>(seat, word, new)
+        self.swap_of::<Brand>(seat, word, new)
     }
 
-    // A store does not tell what it found.
     pub(crate) fn store_as<W: Wish, A>(
         &self,
         seat: &mut Seat<(), View>,
@@ -57,7 +60,8 @@ impl Shared {
         ensures same { IsSameSeat seat.old seat.new }
         ensures seen { (found : ℕ) × HasSeen W.at found seat.old.me.0 seat.new.me.0 }
         ensures told { W.told new seat.new.me.0 }
+        ensures sound { AreSound self.now.setup seat.old.me.0 seat.new.me.0 }
     {
-        self.table.shared.store::<Stored<W>>(seat, word, new)
+        self.store_of::<Brand>(seat, word, new)
     }
 }

@@ -16,8 +16,10 @@ const FREE: u64 = 0;
 const MADE: u64 = 1;
 
 impl Shared {
+    ghost use Rattle.kt_words.specs.StateWords.{FitsStateWord};
     ghost use Rattle.step_table.specs.Passes.{view, plan, IsOf, IsSame, block_of, HasBlock};
-    ghost use Rattle.step_table.specs.RecordHands.{HasNew, MayFill, MayRead};
+    ghost use Rattle.step_table.specs.RecordHands.{MayUnmake, MayFill, MayRead};
+    ghost use Rattle.step_table.specs.Sound.{AreSound};
     ghost use Rattle.step_table.specs.RecordSteps.{Founds, Unmakes, Fills, Reads, SeesState};
 
     /// Makes a record in a fresh block. It has no number yet, and nobody refers to it.
@@ -26,6 +28,7 @@ impl Shared {
         requires hand { HasBlock (plan self.now) (block_of block) (view pass.old).blocks }
         requires fresh { block.fresh ≡ true }
         ensures pass { IsSame pass.old pass.new }
+        ensures sound { AreSound self.now.setup (view pass.old) (view pass.new) }
         ensures made { Founds block pass.old result pass.new }
     {
         let word = state_word(&self.setup.plan, block.unit);
@@ -36,11 +39,12 @@ impl Shared {
         }
     }
 
-    /// Turns a record that got no number into a fresh block again.
+    /// Turns a record that got no number into a fresh block again. It does not count as living.
     pub fn unmake(&self, pass: &mut Pass, made: Made) -> Block
         requires table { IsOf self.now pass.old }
-        requires hand { HasNew (plan self.now) made.unit made.class (view pass.old) }
+        requires may { MayUnmake (plan self.now) made.unit made.class (view pass.old) }
         ensures pass { IsSame pass.old pass.new }
+        ensures sound { AreSound self.now.setup (view pass.old) (view pass.new) }
         ensures block { Unmakes made pass.old result pass.new }
     {
         let word = state_word(&self.setup.plan, made.unit);
@@ -58,6 +62,7 @@ impl Shared {
         requires table { IsOf self.now pass.old }
         requires may { MayFill (plan self.now) unit word (view pass.old) }
         ensures pass { IsSame pass.old pass.new }
+        ensures sound { AreSound self.now.setup (view pass.old) (view pass.new) }
         ensures view { Fills unit word value pass.old pass.new }
     {
         let lies = own_word(&self.setup.plan, unit, word);
@@ -69,6 +74,7 @@ impl Shared {
         requires table { IsOf self.now pass.old }
         requires may { MayRead (plan self.now) unit word (view pass.old) }
         ensures pass { IsSame pass.old pass.new }
+        ensures sound { AreSound self.now.setup (view pass.old) (view pass.new) }
         ensures value { Reads unit word pass.old result pass.new }
     {
         let lies = own_word(&self.setup.plan, unit, word);
@@ -80,6 +86,8 @@ impl Shared {
         requires table { IsOf self.now pass.old }
         requires unit { unit < units_of (plan self.now) }
         ensures pass { IsSame pass.old pass.new }
+        ensures sound { AreSound self.now.setup (view pass.old) (view pass.new) }
+        ensures fits { FitsStateWord result }
         ensures view { SeesState unit pass.old result pass.new }
     {
         let word = state_word(&self.setup.plan, unit);

@@ -1,5 +1,5 @@
 //! The steps on references.
-ghost use Rattle.std.specs.Prelude.{◌≡◌, ◌<◌, ◌^◌};
+ghost use Rattle.std.specs.Prelude.{◌≡◌, ◌+◌, ◌-◌, ◌<◌, ◌^◌};
 ghost use Rattle.step_table.specs.RecordSteps.{IsLast};
 
 use crate::layout::super_word;
@@ -23,8 +23,9 @@ fn last_of(unit: u32, found: u64) -> Option<Retiring>
 }
 
 impl Shared {
-    ghost use Rattle.step_table.specs.Passes.{view, plan, IsOf, IsSame};
-    ghost use Rattle.step_table.specs.RecordHands.{HasFuture, HasClosed, HasRetiring};
+    ghost use Rattle.step_table.specs.Passes.{view, plan, IsOf, IsSame, IsSameWith};
+    ghost use Rattle.step_table.specs.RecordHands.{HasFuture, MayLessen, MayGiveUp, HasRetiring};
+    ghost use Rattle.step_table.specs.Sound.{AreSound};
     ghost use Rattle.step_table.specs.RecordSteps.{Refers, Lessens, GivesUp, Retires};
 
     /// Takes one more reference to a record to which the pass has one.
@@ -32,7 +33,8 @@ impl Shared {
         requires table { IsOf self.now pass.old }
         requires hand { HasFuture (plan self.now) future.now.unit (view pass.old) }
         requires room { pass.old.held < 2 ^ 32 }
-        ensures pass { IsSame pass.old pass.new }
+        ensures pass { IsSameWith (pass.old.held + 1) pass.old pass.new }
+        ensures sound { AreSound self.now.setup (view pass.old) (view pass.new) }
         ensures future { Refers future.now.unit pass.old result pass.new }
     {
         let word = refs_word(&self.setup.plan, future.unit);
@@ -41,11 +43,13 @@ impl Shared {
         Future { unit: future.unit }
     }
 
-    /// Gives a reference up. Some: it was the last, and the record is the pass's to retire.
+    /// Gives a reference up that no running frame of the pass needs. Some: it was the last, and the
+    /// record is the pass's to retire.
     pub fn less(&self, pass: &mut Pass, future: Future) -> Option<Retiring>
         requires table { IsOf self.now pass.old }
-        requires hand { HasFuture (plan self.now) future.unit (view pass.old) }
-        ensures pass { IsSame pass.old pass.new }
+        requires may { MayLessen self.now.setup future.unit (view pass.old) }
+        ensures pass { IsSameWith (pass.old.held - 1) pass.old pass.new }
+        ensures sound { AreSound self.now.setup (view pass.old) (view pass.new) }
         ensures view { Lessens future pass.old result pass.new }
     {
         let unit = future.unit;
@@ -55,12 +59,13 @@ impl Shared {
         last_of(unit, found)
     }
 
-    /// Gives up the scheduler's own reference to a record that is done, once its list is closed.
-    /// Some: it was the last.
+    /// Gives up the scheduler's own reference to a record that is done, once its list is closed and it
+    /// is counted out. Some: it was the last.
     pub fn give_up(&self, pass: &mut Pass, finishing: Finishing) -> Option<Retiring>
         requires table { IsOf self.now pass.old }
-        requires hand { HasClosed (plan self.now) finishing.unit (view pass.old) }
+        requires may { MayGiveUp (plan self.now) finishing.unit (view pass.old) }
         ensures pass { IsSame pass.old pass.new }
+        ensures sound { AreSound self.now.setup (view pass.old) (view pass.new) }
         ensures view { GivesUp finishing pass.old result pass.new }
     {
         let unit = finishing.unit;
@@ -74,6 +79,7 @@ impl Shared {
         requires table { IsOf self.now pass.old }
         requires hand { HasRetiring (plan self.now) retiring.unit (view pass.old) }
         ensures pass { IsSame pass.old pass.new }
+        ensures sound { AreSound self.now.setup (view pass.old) (view pass.new) }
         ensures block { Retires (plan self.now) retiring pass.old result pass.new }
     {
         let unit = retiring.unit;

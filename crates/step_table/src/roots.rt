@@ -1,5 +1,5 @@
 //! The steps of asking for roots.
-ghost use Rattle.std.specs.Prelude.{◌≡◌, ◌<◌, ◌^◌, ◌∷◌, [], List, length, slice_get, Some, ℕ};
+ghost use Rattle.std.specs.Prelude.{◌≡◌, ◌+◌, ◌-◌, ◌<◌, ◌^◌, ◌∷◌, [], List, length, slice_get, Some, ℕ};
 ghost use Rattle.table_core.specs.Holdings.{RootSays, Record};
 ghost use Rattle.table_core.specs.RecordViews.{turned};
 ghost use Rattle.table_core.specs.Roots.{root_word as word_of_root};
@@ -98,14 +98,16 @@ fn unit_of(named: Option<NamedRoot>) -> u32
 }
 
 impl Shared {
-    ghost use Rattle.step_table.specs.Passes.{view, plan, IsOf, IsSame};
+    ghost use Rattle.step_table.specs.Passes.{view, plan, IsOf, IsSameWith};
+    ghost use Rattle.step_table.specs.Sound.{AreSound};
     ghost use Rattle.step_table.specs.RootSteps.{Names, MayAsk, HasRootRecord, RefersRoot};
 
     /// Asks for the next root, of which the word says what came of it.
     pub fn name(&self, pass: &mut Pass, root: u8, word: RootWord)
         requires table { IsOf self.now pass.old }
         requires may { MayAsk self.now.setup root word (view pass.old) }
-        ensures pass { IsSame pass.old pass.new }
+        ensures pass { IsSameWith (pass.old.held - taken_of word) pass.old pass.new }
+        ensures sound { AreSound self.now.setup (view pass.old) (view pass.new) }
         ensures view { Names root word pass.old pass.new }
     {
         let named = named_by(&word);
@@ -122,7 +124,8 @@ impl Shared {
         requires root { root < 16 }
         requires named { HasRootRecord (plan self.now) root (view pass.old) }
         requires room { pass.old.held < 2 ^ 32 }
-        ensures pass { IsSame pass.old pass.new }
+        ensures pass { IsSameWith (pass.old.held + 1) pass.old pass.new }
+        ensures sound { AreSound self.now.setup (view pass.old) (view pass.new) }
         ensures future { RefersRoot root pass.old result pass.new }
     {
         let unit = unit_of(pass.named(root));

@@ -81,11 +81,6 @@ kind-below (journal n j) = omega arith
 kind-below (evidence i) = omega arith
 kind-below (sum k) = omega arith
 
--- an address is the same as itself
-pub same-refl : (a : Addr) → is_same a a ≡ true
-same-refl a = and_from (kind a == kind a) _ (eq-eqb (kind a) (kind a) refl)
-    (and_from (minor a == minor a) (major a == major a) (eq-eqb (minor a) (minor a) refl) (eq-eqb (major a) (major a) refl))
-
 -- words that are the same have one kind, column and row
 same_parts : (a b : Addr) → is_same a b ≡ true → (kind a ≡ kind b) × (minor a ≡ minor b) × (major a ≡ major b)
 same_parts a b same =

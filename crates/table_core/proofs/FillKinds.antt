@@ -285,10 +285,6 @@ module _ (g : Setup) (id : ℕ) (v : View) where
             each-cons _ (SawDone u (m (state u))) v.sights (leb-true 1 (times u v.futures) t.0, (refl, eqb-true (phase_of (m (state u))) 5 t.1)) mine
     see-parts u q = frames g vs id v at q s m (saw (state u) (m (state u)) (saw_state u (m (state u)) v)) refl (l q)
 
-  -- fill: an own word of a record that is made, or the frame or the result of one that runs
-  pub fills-at : (a : Addr) (n : ℕ) → is_own v.made v.runs a ≡ true → is_filled a ≡ true → Keeps g id v a (λ k. n) (λ r w. (k : ℕ) × (w ≡ saw a k (filled a n v)))
-  fills-at a n mine may m vs s l at small = (saw a (m a) (filled a n v), fill-lawful m vs s l at a n mine may, (m a, refl), (refl, refl))
-
   -- read own: what is known is what is found
   pub reads-at : (a : Addr) → Keeps g id v a (λ n. n) (λ r w. (w ≡ saw a r (learnt a r v)) × ((n : ℕ) → known_in a v.known ≡ Some n → r ≡ n))
   reads-at a m vs s l at small = (saw a (m a) (learnt a (m a) v), kept_word g s m a (m a) _ refl (read-parts m vs s l at a), (refl, read-told m vs s l at a), (refl, refl))

@@ -19,7 +19,7 @@ use Rattle.table_core.specs.Own.{Hands, runs_at, done_at, is_own, is_word_of, is
 use Rattle.table_core.specs.WaitLists.{Waits}
 use Rattle.table_core.specs.Views.{saw}
 use Rattle.table_core.specs.WaitViews.{is_run_at, finished}
-use Rattle.table_core.specs.Parts.{Part, pool, bounds, references, fits, own, shaped, waits, sights, seen, Says, AllSay, Keeps}
+use Rattle.table_core.specs.Parts.{Part, pool, bounds, references, fits, own, shaped, waits, sights, seen, Says, AllSay}
 use Rattle.table_core.specs.declared.setup.Setup.{Setup}
 use Rattle.table_core.specs.declared.view.View.{View}
 use Rattle.table_core.proofs.ListFacts.{at_map, each-set, each-dropped}
@@ -54,10 +54,6 @@ own-past u c made runs one a mine not_its = elim (owned-by made runs a mine) [
 cond-zero : (b : Bool) → ◌≡◌ {A = ℕ} (cond b 0 0) 0
 cond-zero true = refl
 cond-zero false = refl
-
--- what a finish tells: the record at u is done, and the class is that of each run there
-abbrev pub TellsFinish : View → ℕ → ℕ → View → Type 0
-TellsFinish v u k w = (n : ℕ) × (c : ℕ) × (w ≡ saw (state u) n (finished u c v)) × ((x : Run) → Has x v.runs → x.unit ≡ u → x.class ≡ c)
 
 module _ (g : Setup) (id : ℕ) (v : View) where
   module _ (m : Mem) (vs : List View) (s : Story) (l : AllSay g s m vs) (at : At vs id v) (r : Run) (has : Has r v.runs) (in_use : 1 ≤ v.parts) (n : ℕ) (done : phase_of n ≡ 5)
@@ -231,18 +227,3 @@ module _ (g : Setup) (id : ℕ) (v : View) where
         (sights-written (λ w. m (head w)) (λ w. m (head w)) (λ w. m (task w)) (λ w. m (task w)) states states' (map (seen sights) vs) (l sights)
         (λ k w x there refers. record { later = inl refl; task_same = refl; done_same = λ is. state-other m u n w (λ e. omega (arith, is, ran.1, ap (λ (y : ℕ). phase_of (states y)) e)) }))
     finish-parts q = frames g vs id v at q s (put m (state u) n) after_finish refl (l q)
-
-  -- finish: a running record of the hand; the new word keeps its number
-  pub finishes-at : (r : Run) → Has r v.runs → 1 ≤ v.parts → (word : ℕ) → phase_of word ≡ 5 → number_of word ≡ r.number → IsStateWord word
-      → Keeps g id v (state r.unit) (λ n. word) (TellsFinish v r.unit)
-  finishes-at r has in_use word done numbered shape m vs s l at small = (
-    saw (state r.unit) (m (state r.unit)) (finished r.unit r.class v),
-    finish-parts m vs s l at r has in_use word done numbered shape,
-    (m (state r.unit), r.class, refl, class-same),
-    (refl, refl),
-  )
-    where
-      class-same : (x : Run) → Has x v.runs → x.unit ≡ r.unit → x.class ≡ r.class
-      class-same x there e =
-          let is = mine m vs s l at r has in_use word done numbered shape in
-          is.run_classes there.0 x there.1 ∙ ap (λ (u : ℕ). class_of (m (super (superblock_of g.plan u)))) e ∙ sym (is.run_classes has.0 r has.1)

@@ -2,13 +2,12 @@
 use Rattle.std.proofs.Common.{◌≡◌, ◌≢◌, ◌∙◌, ℕ, ◌+◌, ◌*◌, ◌≤◌, min, ◌==◌, List, map, length, refl, sym, ap, subst, arith, length-append}
 use Rattle.std.specs.Prelude.{slice_set, slice_index}
 use Rattle.std.proofs.lemmas.List.{map-set}
-use Rattle.atomic_table.specs.Table.{Joins}
 use Rattle.record_core.specs.Sums.{total}
-use Rattle.record_core.proofs.TotalFacts.{total-set_two, total-append, slice_get-set_other}
+use Rattle.record_core.proofs.TotalFacts.{total-set_two, total-append}
 use Rattle.kt_words.specs.SuperWords.{class_of, most_ever}
 use Rattle.kt_words.specs.Capacity.{block_units}
 use Rattle.frame_code.specs.Frames.{frame_length}
-use Rattle.table_core.specs.Addresses.{Mem, super, state, refs, head, next, task, root, frame_in, mem_of}
+use Rattle.table_core.specs.Addresses.{Mem, super, state, refs, head, next, task, root, frame_in}
 use Rattle.record_core.specs.Counting.{At, one_if, times}
 use Rattle.table_core.specs.Lists.{Each, hit, hit3}
 use Rattle.table_core.specs.Holdings.{Place, Block, Look, Run, Done}
@@ -25,13 +24,12 @@ use Rattle.table_core.specs.Views.{joined, spent, with_wins, HasOnlyBlocks}
 use Rattle.table_core.specs.Parts.{Part, pool, shares, bounds, wins, looks, evers, references, fits, own, roots, shaped, numbers, totals, waits, sights, Seen, seen, unnumbered, Says, AllSay}
 use Rattle.table_core.specs.declared.setup.Setup.{Setup}
 use Rattle.table_core.specs.declared.view.View.{View}
-use Rattle.table_core.proofs.ListFacts.{found, at_map, map_at, each-set, each-append, each-none}
+use Rattle.table_core.proofs.ListFacts.{at_map, map_at, each-set, each-append, each-none}
 use Rattle.table_core.proofs.PoolFacts.{pool-same}
 use Rattle.table_core.proofs.WinSteps.{look-kept}
 use Rattle.table_core.proofs.ReferenceFacts.{referred-same}
 use Rattle.table_core.proofs.OwnFacts.{IsHand, knows-nothing, hands-from, own-from}
 use Rattle.table_core.proofs.WaitFacts.{IsWaitHand, wait-hands, waits-same}
-use Rattle.table_core.proofs.Rule.{holds_at}
 
 module _ (g : Setup) (m : Mem) (vs : List View) (s : Story) (l : AllSay g s m vs) (id other : ℕ) (v w : View) (at : At vs id v) (at' : At vs other w) (apart : id ≢ other) (in_use : 1 ≤ v.parts) (only : HasOnlyBlocks w) where
   abbrev one : View
@@ -168,16 +166,3 @@ module _ (g : Setup) (m : Mem) (vs : List View) (s : Story) (l : AllSay g s m vs
   -- each part holds where the list of views has the joined pass and the spent one
   pub joined-says : (q : Part) → Says g q s m (map (seen q) (slice_set (slice_set vs id one) other spent))
   joined-says q = subst (Says g q s m) (sym (map-set (seen q) (slice_set vs id one) other spent ∙ ap (λ (xs : List (Seen q)). slice_set xs other (seen q spent)) (map-set (seen q) vs id one))) (joined_parts q)
-
--- a pass may take in one that has nothing but blocks
-pub joins : (g : Setup) (id : ℕ) (v : View) (other : ℕ) (w : View) → 1 ≤ v.parts → HasOnlyBlocks w → Joins (holds_at g) id v other w (joined v w) spent
-joins g id v other w in_use only st holds at apart at' =
-    let two : id ≢ other = λ e. apart (sym e) in (
-      holds.0,
-      (
-        holds.1.0,
-        joined-says g (mem_of g.plan st.words) st.views holds.1.0 holds.1.1 id other v w (found st.views id v at)
-            (sym (slice_get-set_other st.views id other (joined v w) two) ∙ found (slice_set st.views id (joined v w)) other w at') two in_use only,
-      ),
-      holds.2,
-    )

@@ -28,9 +28,6 @@ pub mod WaitKinds
 pub mod ListKinds
 pub mod FinishKinds
 pub mod Opening
-pub mod OpenedFacts
-pub mod OpenedWords
-pub mod Opened
 pub mod Splitting
 pub mod Joining
 pub mod RuleFacts

@@ -274,13 +274,3 @@ module _ (g : Setup) (id : ℕ) (v : View) where
         ((λ same. absurd (ne same), λ e. refl), is.0, later, is.1),
         (refl, refl),
       ))
-
-  -- close: a done record of the hand whose list is open
-  pub closes-at : (d : Done) → Has d v.done → d.closed ≡ false → 1 ≤ v.parts
-      → Keeps g id v (head d.unit) (λ n. closed_word) (λ r w. (members : List ℕ) × (w ≡ saw (head d.unit) r (closed_list d.unit members v)) × IsTaken g.plan r members)
-  closes-at d has not_closed in_use m vs s l at small = (
-    saw (head d.unit) (m (head d.unit)) (closed_list d.unit (taken m vs s l at d has not_closed in_use) v),
-    close-parts m vs s l at d has not_closed in_use,
-    (taken m vs s l at d has not_closed in_use, refl, close-taken m vs s l at d has not_closed in_use),
-    (refl, refl),
-  )

@@ -1,7 +1,6 @@
 -- The rule holds of a table whose words are all 0, with its first pass.
-use Rattle.std.proofs.Common.{◌≡◌, ◌∙◌, ℕ, zero, suc, ◌+◌, ◌%◌, Bool, true, false, cond, ◌==◌, [], ◌∷◌, map, replicate, get_or, refl, sym, ap, subst, true≢false, arith}
+use Rattle.std.proofs.Common.{◌≡◌, ◌∙◌, ℕ, zero, suc, ◌+◌, ◌%◌, Bool, true, false, cond, ◌==◌, [], ◌∷◌, map, replicate, get_or, refl, sym, ap, true≢false, arith}
 use Rattle.std.specs.Prelude.{nat_lt}
-use Rattle.std.proofs.lemmas.List.{length-replicate}
 use Rattle.std.proofs.lemmas.Bool.{ne_eqb}
 use Rattle.std.proofs.lemmas.Nat.Bits.{bit_at-zero}
 use Rattle.record_core.specs.Sums.{below}
@@ -9,15 +8,14 @@ use Rattle.record_core.specs.Counting.{one_if}
 use Rattle.record_core.proofs.BelowFacts.{below-same}
 use Rattle.record_core.proofs.TotalFacts.{none_there}
 use Rattle.kt_words.specs.declared.plan.Plan.{Plan}
-use Rattle.table_core.specs.Addresses.{Addr, Mem, super, state, address, words_of, is_there, mem_of, units_of}
+use Rattle.table_core.specs.Addresses.{Addr, Mem, super, state, address, is_there, mem_of, units_of}
 use Rattle.table_core.specs.Story.{unwritten}
-use Rattle.table_core.specs.Unbuilt.{UnbuiltAreZero}
 use Rattle.table_core.specs.Pool.{cap, Hand, records, used_at, held, owned, IsKept, bit_in}
 use Rattle.table_core.specs.Bounds.{IsBounded}
 use Rattle.table_core.specs.Views.{first_view}
 use Rattle.table_core.specs.Holdings.{Record, Skipped}
 use Rattle.table_core.specs.Own.{is_in, record_words}
-use Rattle.table_core.specs.Parts.{Part, pool, shares, bounds, wins, looks, evers, references, fits, own, roots, shaped, numbers, totals, waits, sights, seen, Says, Holds}
+use Rattle.table_core.specs.Parts.{Part, pool, shares, bounds, wins, looks, evers, references, fits, own, roots, shaped, numbers, totals, waits, sights, seen, Says}
 use Rattle.table_core.specs.declared.setup.Setup.{Setup}
 use Rattle.table_core.proofs.PoolFacts.{cond-le}
 use Rattle.table_core.proofs.ListFacts.{each-cons, each-none}
@@ -108,11 +106,3 @@ module _ (g : Setup) where
       (λ w. omega (arith, below-zeros (units_of g.plan), free 2 w refl)) (λ u near is. absurd (true≢false (sym is)))
       (each-cons _ (seen waits first_view) [] (record { done_closed = each-none _; chains = each-none _; numbers = each-none _; linked = each-none _ }) (each-none _))
   first_parts sights = each-cons _ (seen sights first_view) [] (each-none _) (each-none _)
-
-  -- the rule holds of words that are 0 and the first view
-  pub holds-first : (n : ℕ) → n ≡ words_of g.plan → Holds g (replicate n 0) (first_view ∷ [])
-  holds-first n long = (
-    length-replicate n 0 ∙ long,
-    (unwritten, λ q. subst (λ (m : Mem). Says g q unwritten m (map (seen q) (first_view ∷ []))) (sym (mem-zeros g.plan n)) (first_parts q)),
-    subst UnbuiltAreZero (sym (mem-zeros g.plan n)) (λ a not. refl),
-  )

@@ -17,7 +17,7 @@ use Rattle.table_core.specs.Own.{Hands, is_own, is_in, record_words}
 use Rattle.table_core.specs.WaitLists.{Waits, chained, listed, is_open, waits_at, chains_at, unclosed_at, Follows, link_to, WaitSound}
 use Rattle.table_core.specs.Views.{saw}
 use Rattle.table_core.specs.WaitViews.{is_waiter_at, readied}
-use Rattle.table_core.specs.Parts.{Part, pool, bounds, references, fits, own, shaped, waits, sights, seen, Says, AllSay, Keeps}
+use Rattle.table_core.specs.Parts.{Part, pool, bounds, references, fits, own, shaped, waits, sights, seen, Says, AllSay}
 use Rattle.table_core.specs.declared.setup.Setup.{Setup}
 use Rattle.table_core.specs.declared.view.View.{View}
 use Rattle.table_core.proofs.BagFacts.{one-here, one-apart}
@@ -221,13 +221,3 @@ module _ (g : Setup) (id : ℕ) (v : View) where
         (sights-written heads heads (λ w. m (task w)) (λ w. m (task w)) states states' (map (seen sights) vs) (l sights)
         (λ k w y there refers. record { later = inl refl; task_same = refl; done_same = λ is. state-other m u n w (λ e. omega (arith, is, waited.1, ap (λ (z : ℕ). phase_of (states z)) e)) }))
     ready-parts q = frames g vs id v at q s (put m (state u) n) after_ready refl (l q)
-
-  -- ready: a waiter of the hand; the new word keeps its number
-  pub readies-at : (x : Waiter) → Has x v.waiting → 1 ≤ v.parts → (word : ℕ) → phase_of word ≡ 3 → number_of word ≡ x.number → IsStateWord word
-      → Keeps g id v (state x.unit) (λ n. word) (λ k w. (n : ℕ) × (w ≡ saw (state x.unit) n (readied x.unit v)))
-  readies-at x has in_use word ready numbered shape m vs s l at small = (
-    saw (state x.unit) (m (state x.unit)) (readied x.unit v),
-    ready-parts m vs s l at x has in_use word ready numbered shape,
-    (m (state x.unit), refl),
-    (refl, refl),
-  )

@@ -495,24 +495,6 @@ module _ (g : Setup) (id : ℕ) (v : View) where
           )
       retire-parts q = frames g vs id v at q s (put m (state u) 0) after_retire refl (l q)
 
-  -- found
-  pub founds-at : (x : Block) → Has x v.blocks → x.fresh ≡ true → 1 ≤ v.parts → Keeps g id v (state x.unit) (λ n. 1) (λ r w. (n : ℕ) × (w ≡ saw (state x.unit) n (founded x v)))
-  founds-at x has fresh in_use m vs s l at small = (saw (state x.unit) (m (state x.unit)) (founded x v), found-parts m vs s l at x has fresh in_use, (m (state x.unit), refl), (refl, refl))
-
-  -- unmake
-  pub unmakes-at : (r : Made) → Has r v.made → r.number ≡ 0 → 1 ≤ v.parts → Keeps g id v (state r.unit) (λ n. 0) (λ k w. (n : ℕ) × (w ≡ saw (state r.unit) n (unmade r.unit r.class v)))
-  unmakes-at r has no_number in_use m vs s l at small = (saw (state r.unit) (m (state r.unit)) (unmade r.unit r.class v), unmake-parts m vs s l at r has no_number in_use, (m (state r.unit), refl), (refl, refl))
-
-  -- retire; the class of the block is the superblock's
-  pub retires-at : (u : ℕ) → u < units_of g.plan → 1 ≤ times u v.retiring → 1 ≤ v.parts
-      → Keeps g id v (state u) (λ n. 0) (λ k w. (c : ℕ) × IsBlock g.plan u c × ((n : ℕ) × (w ≡ saw (state u) n (retired u c v))))
-  retires-at u near has in_use m vs s l at small = (
-    saw (state u) (m (state u)) (retired u (class_of (m (super (superblock_of g.plan u)))) v),
-    retire-parts m vs s l at u near has in_use,
-    (class_of (m (super (superblock_of g.plan u))), in_block m vs s l at u near has in_use, (m (state u), refl)),
-    (refl, refl),
-  )
-
   -- a load of a superblock's word tells the class of a block there
   pub class-glances-at : (u : ℕ) → u < units_of g.plan → Keeps g id v (super (superblock_of g.plan u)) (λ n. n)
       (λ r w. (w ≡ saw (super (superblock_of g.plan u)) r v) × (class_of r ≤ 3) × ((x : Block) → Has x v.blocks → x.unit ≡ u → class_of r ≡ x.class))

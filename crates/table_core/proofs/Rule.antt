@@ -1,19 +1,15 @@
--- How the rule is kept: a part that reads nothing of what a step changes stays, and a step that keeps all parts may be made.
-use Rattle.std.proofs.Common.{◌≡◌, ◌∙◌, ℕ, Bool, true, false, cond, List, map, refl, sym, ap, subst, true≢false, arith, length-set}
-use Rattle.std.specs.Prelude.{slice_index, slice_set}
+-- How the rule is kept: a part that reads nothing of what a step changes stays.
+use Rattle.std.proofs.Common.{◌≡◌, ◌∙◌, ℕ, List, map, sym, ap, subst}
+use Rattle.std.specs.Prelude.{slice_set}
 use Rattle.std.proofs.lemmas.List.{map-set}
-use Rattle.atomic_table.specs.Table.{State, Me, Act, Allows, Splits, Joins}
-use Rattle.atomic_table.specs.Table as table
-use Rattle.table_core.specs.Addresses.{Addr, Mem, address, is_there, is_same, mem_of, put}
-use Rattle.table_core.specs.Unbuilt.{is_built, UnbuiltAreZero}
+use Rattle.table_core.specs.Addresses.{Addr, Mem, put}
 use Rattle.record_core.specs.Counting.{At}
 use Rattle.table_core.specs.Story.{Story}
-use Rattle.table_core.specs.Steps.{Stepped, Tells, TellsStored}
-use Rattle.table_core.specs.Parts.{Part, seen, Says, AllSay, Holds, Keeps}
+use Rattle.table_core.specs.Parts.{Part, seen, Says, AllSay}
 use Rattle.table_core.specs.declared.setup.Setup.{Setup}
 use Rattle.table_core.specs.declared.view.View.{View}
-use Rattle.table_core.proofs.ListFacts.{found, set_again, at_map}
-use Rattle.table_core.proofs.AddressFacts.{mem-put, mem_at, put-again, same-is}
+use Rattle.table_core.proofs.ListFacts.{set_again, at_map}
+use Rattle.table_core.proofs.AddressFacts.{put-again}
 
 module _ (g : Setup) (vs : List View) (id : ℕ) (v : View) (at : At vs id v) where
   -- a part stays where what it reads of the view stays
@@ -26,52 +22,6 @@ module _ (g : Setup) (vs : List View) (id : ℕ) (v : View) (at : At vs id v) wh
   -- a part holds where it holds with what it reads of the new view
   pub moves : (q : Part) (s : Story) (n : Mem) (w : View) → Says g q s n (slice_set (map (seen q) vs) id (seen q w)) → Says g q s n (map (seen q) (slice_set vs id w))
   moves q s n w says = subst (Says g q s n) (sym (map-set (seen q) vs id w)) says
-
-abbrev pub holds_at : Setup → State (Unit {0}) View → Type 0
-holds_at g s = Holds g s.words s.views
-
--- the words that no step writes are 0 after a step at another word
-pub unbuilt-kept : (m : Mem) (a : Addr) (n : ℕ) → is_built a ≡ true → UnbuiltAreZero m → UnbuiltAreZero (put m a n)
-unbuilt-kept m a n built zeros b not = by (is_same a b) refl
-  where
-    by : (s : Bool) → is_same a b ≡ s → cond s n (m b) ≡ 0
-    by true same = absurd (true≢false (sym built ∙ ap is_built (same-is a b same) ∙ not))
-    by false other = zeros b not
-
--- a kind of step that keeps the rule over addresses keeps it over the words as they lie
-may_step : (g : Setup) (slots id : ℕ) (me : Me (Unit {0}) View) (a : Addr) (f : ℕ → ℕ) (told : ℕ → View → Type 0)
-    → is_there g.plan a ≡ true → is_built a ≡ true → Keeps g id me.0 a f told → Allows (holds_at g) slots id me (address g.plan a) f (Tells a told me)
-may_step g slots id me a f told there built keeps s holds homes at small =
-    let m : Mem = mem_of g.plan s.words in
-    let read : m a ≡ slice_index s.words (address g.plan a) = mem_at g.plan s.words a there in
-    let step = keeps m s.views holds.1.0 holds.1.1 (found s.views id me.0 at) (omega (arith, small, read)) in
-    let new : View = step.0 in
-    let written : put m a (f (m a)) ≡ mem_of g.plan (slice_set s.words (address g.plan a) (f (slice_index s.words (address g.plan a)))) =
-    ap (λ (n : ℕ). put m a (f n)) read ∙ sym (mem-put g.plan s.words a (f (slice_index s.words (address g.plan a))) holds.0 there) in (
-      new,
-      table.keeps,
-      tt,
-      (
-        length-set s.words (address g.plan a) (f (slice_index s.words (address g.plan a))) ∙ holds.0,
-        (holds.1.0, subst (λ (n : Mem). AllSay g holds.1.0 n (slice_set s.views id new)) written step.1),
-        subst UnbuiltAreZero written (unbuilt-kept m a (f (m a)) built holds.2),
-      ),
-      (subst (λ (n : ℕ). told n new) read step.2, subst (λ (n : ℕ). Stepped a n me.0 new) read step.3, refl),
-    )
-
--- a kind of step that keeps the rule over addresses is allowed at the word of its address
-pub allows : (g key : Setup) (slots id word : ℕ) (me : Me (Unit {0}) View) (a : Addr) (f : ℕ → ℕ) (told : ℕ → View → Type 0)
-    → key ≡ g → word ≡ address g.plan a → is_there g.plan a ≡ true → is_built a ≡ true → Keeps g id me.0 a f told → Allows (holds_at key) slots id me word f (Tells a told me)
-allows g key slots id word me a f told keyed placed there built keeps =
-    subst (λ (k : Setup). Allows (holds_at k) slots id me word f (Tells a told me)) (sym keyed)
-    (subst (λ (w : ℕ). Allows (holds_at g) slots id me w f (Tells a told me)) (sym placed) (may_step g slots id me a f told there built keeps))
-
--- a store tells what it wrote, and not what it found
-pub stores : (g key : Setup) (slots id word new : ℕ) (me : Me (Unit {0}) View) (a : Addr) (told : ℕ → View → Type 0)
-    → key ≡ g → word ≡ address g.plan a → is_there g.plan a ≡ true → is_built a ≡ true → Keeps g id me.0 a (λ n. new) (λ n. told new) → Allows (holds_at key) slots id me word (λ n. new) (λ n. TellsStored a told me new)
-stores g key slots id word new me a told keyed placed there built keeps s holds homes at small =
-    let step = allows g key slots id word me a (λ n. new) (λ n. told new) keyed placed there built keeps s holds homes at small in
-    (step.0, step.1, step.2, step.3, (step.4.0, (slice_index s.words word, step.4.1), step.4.2))
 
 -- a word is written as it was
 pub kept_word : (g : Setup) (s : Story) (m : Mem) (a : Addr) (n : ℕ) (vs : List View) → n ≡ m a → AllSay g s m vs → AllSay g s (put m a n) vs

@@ -9,11 +9,11 @@ use Rattle.record_core.proofs.BelowFacts.{below-bounded}
 use Rattle.kt_words.specs.SuperWords.{count_of, class_of}
 use Rattle.kt_words.specs.StateWords.{phase_of}
 use Rattle.kt_words.proofs.GeometryFacts.{blocks_fill}
-use Rattle.table_core.specs.Addresses.{Mem, super, state, mem_of, units_of}
+use Rattle.table_core.specs.Addresses.{Mem, super, state, units_of}
 use Rattle.table_core.specs.Lists.{Each, hit, hit3}
 use Rattle.table_core.specs.Holdings.{Place, Block}
 use Rattle.table_core.specs.Pool.{superblock_of, bit_of, IsBlock, is_used, Hand, places, owns, records, held, owned, IsKept, PoolSound, bit_in}
-use Rattle.table_core.specs.Parts.{pool, seen, Holds}
+use Rattle.table_core.specs.Parts.{pool, seen, Lawful}
 use Rattle.table_core.specs.RuleLaws.{HasAt, ShareNone, AreApart, BlocksAreApart, StandsAt, class_at, RecordsAreApart, RecordsAndBlocksAreApart, HasNothing, UnusedPoolIsEmpty}
 use Rattle.table_core.specs.declared.setup.Setup.{Setup}
 use Rattle.table_core.specs.declared.view.View.{View}
@@ -24,10 +24,7 @@ use Rattle.table_core.proofs.ClassFacts.{used-from}
 use Rattle.table_core.proofs.PoolRecords.{record_block, block_free}
 use Rattle.table_core.proofs.Owners.{blocks-apart}
 
-module _ (g : Setup) (ws : List ℕ) (vs : List View) (holds : Holds g ws vs) where
-  abbrev m : Mem
-  m = mem_of g.plan ws
-
+module _ (g : Setup) (m : Mem) (vs : List View) (lawful : Lawful g m vs) where
   abbrev hands : List Hand
   hands = map (seen pool) vs
 
@@ -38,7 +35,7 @@ module _ (g : Setup) (ws : List ℕ) (vs : List View) (holds : Holds g ws vs) wh
   states u = m (state u)
 
   sound : PoolSound g.plan supers (bit_in m) states hands
-  sound = holds.1.1 pool
+  sound = lawful.1 pool
 
   abbrev its : Block → ℕ
   its x = superblock_of g.plan x.unit
@@ -123,16 +120,16 @@ module _ (g : Setup) (ws : List ℕ) (vs : List View) (holds : Holds g ws vs) wh
           not_both id k id' k' x y has has' apart same_place (class_same same_place) (λ j. bit_of g.plan (e j) (class_same same_place j))
 
   -- a record's block is one of its superblock's class
-  stands_block : (u : ℕ) → StandsAt g ws u → IsBlock g.plan u (class_at g ws u)
+  stands_block : (u : ℕ) → StandsAt g m u → IsBlock g.plan u (class_at g m u)
   stands_block u stands = record_block g.plan supers (bit_in m) states hands sound u stands.near (used-from (states u) stands.used)
 
-  records_apart : (u w : ℕ) → StandsAt g ws u → StandsAt g ws w → u ≢ w → ShareNone u (class_at g ws u) w (class_at g ws w)
+  records_apart : (u w : ℕ) → StandsAt g m u → StandsAt g m w → u ≢ w → ShareNone u (class_at g m u) w (class_at g m w)
   records_apart u w stands stands' ne =
-      blocks-apart g.plan u (class_at g ws u) w (class_at g ws w) (stands_block u stands) (stands_block w stands') (λ e. ap (λ (i : ℕ). class_of (supers i)) e) ne
+      blocks-apart g.plan u (class_at g m u) w (class_at g m w) (stands_block u stands) (stands_block w stands') (λ e. ap (λ (i : ℕ). class_of (supers i)) e) ne
 
   -- where a pass has a block, no record stands
-  records_and_blocks : (id k u : ℕ) (x : Block) → HasAt vs id k x → StandsAt g ws u → ShareNone x.unit x.class u (class_at g ws u)
-  records_and_blocks id k u x has stands = blocks-apart g.plan x.unit x.class u (class_at g ws u) (is_block id k x has) (stands_block u stands)
+  records_and_blocks : (id k u : ℕ) (x : Block) → HasAt vs id k x → StandsAt g m u → ShareNone x.unit x.class u (class_at g m u)
+  records_and_blocks id k u x has stands = blocks-apart g.plan x.unit x.class u (class_at g m u) (is_block id k x has) (stands_block u stands)
       (λ e. sym (its_class id k x has) ∙ ap (λ (i : ℕ). class_of (supers i)) e) other_unit
     where
       free : is_used (states x.unit) ≡ 0
@@ -178,16 +175,16 @@ module _ (g : Setup) (ws : List ℕ) (vs : List View) (holds : Holds g ws vs) wh
 
 -- two blocks of passes share no unit
 pub blocks_are_apart : BlocksAreApart
-blocks_are_apart g ws vs holds = apart_from g ws vs holds
+blocks_are_apart g m vs lawful = apart_from g m vs lawful
 
 -- two records share no unit
 pub records_are_apart : RecordsAreApart
-records_are_apart g ws vs holds = records_apart g ws vs holds
+records_are_apart g m vs lawful = records_apart g m vs lawful
 
 -- a block of a pass and the block of a record share no unit
 pub records_and_blocks_are_apart : RecordsAndBlocksAreApart
-records_and_blocks_are_apart g ws vs holds = records_and_blocks g ws vs holds
+records_and_blocks_are_apart g m vs lawful = records_and_blocks g m vs lawful
 
 -- a pool of which nobody has anything is empty
 pub unused_pool_is_empty : UnusedPoolIsEmpty
-unused_pool_is_empty g ws vs holds nothing free = empty_at g ws vs holds nothing free
+unused_pool_is_empty g m vs lawful nothing free = empty_at g m vs lawful nothing free

@@ -2,13 +2,12 @@
 use Rattle.std.proofs.Common.{◌≡◌, ◌∙◌, ℕ, ◌*◌, ◌-◌, ◌≤◌, min, List, [], ◌∷◌, ◌++◌, map, length, refl, sym, ap, subst, arith}
 use Rattle.std.specs.Prelude.{slice_set, slice_index}
 use Rattle.std.proofs.lemmas.List.{map-set, map-append}
-use Rattle.atomic_table.specs.Table.{Splits}
 use Rattle.record_core.specs.Sums.{total}
 use Rattle.record_core.proofs.TotalFacts.{total-set, total-snoc}
 use Rattle.kt_words.specs.SuperWords.{class_of, most_ever}
 use Rattle.kt_words.specs.Capacity.{block_units}
 use Rattle.frame_code.specs.Frames.{frame_length}
-use Rattle.table_core.specs.Addresses.{Mem, super, state, refs, head, next, task, root, frame_in, mem_of}
+use Rattle.table_core.specs.Addresses.{Mem, super, state, refs, head, next, task, root, frame_in}
 use Rattle.record_core.specs.Counting.{At, times}
 use Rattle.table_core.specs.Lists.{Each}
 use Rattle.table_core.specs.Holdings.{Block, Look, Run}
@@ -25,13 +24,12 @@ use Rattle.table_core.specs.Views.{kept_half, idle_half}
 use Rattle.table_core.specs.Parts.{Part, pool, shares, bounds, wins, looks, evers, references, fits, own, roots, shaped, numbers, totals, waits, sights, Seen, seen, Says, AllSay}
 use Rattle.table_core.specs.declared.setup.Setup.{Setup}
 use Rattle.table_core.specs.declared.view.View.{View}
-use Rattle.table_core.proofs.ListFacts.{found, at_map, each-set, each-append, each-cons, each-none}
+use Rattle.table_core.proofs.ListFacts.{at_map, each-set, each-append, each-cons, each-none}
 use Rattle.table_core.proofs.PoolFacts.{pool-same}
 use Rattle.table_core.proofs.WinSteps.{look-kept}
 use Rattle.table_core.proofs.ReferenceFacts.{referred-same}
 use Rattle.table_core.proofs.OwnFacts.{IsHand, knows-nothing, hands-from, own-from}
 use Rattle.table_core.proofs.WaitFacts.{IsWaitHand, wait-hands, waits-same}
-use Rattle.table_core.proofs.Rule.{holds_at}
 
 module _ (g : Setup) (m : Mem) (vs : List View) (s : Story) (l : AllSay g s m vs) (id : ℕ) (v : View) (at : At vs id v) (room : 2 ≤ v.parts) where
   -- what a part reads of both passes and the others
@@ -120,7 +118,3 @@ module _ (g : Setup) (m : Mem) (vs : List View) (s : Story) (l : AllSay g s m vs
   -- each part holds where the list of views has the two halves
   pub split-says : (q : Part) → Says g q s m (map (seen q) (slice_set vs id (kept_half v) ++ idle_half v ∷ []))
   split-says q = subst (Says g q s m) (sym (map-append (seen q) (slice_set vs id (kept_half v)) (idle_half v ∷ []) ∙ ap (λ (xs : List (Seen q)). xs ++ seen q (idle_half v) ∷ []) (map-set (seen q) vs id (kept_half v)))) (split_parts q)
-
--- a pass with two parts or more may be split
-pub splits : (g : Setup) (id : ℕ) (v : View) → 2 ≤ v.parts → Splits (holds_at g) id v (kept_half v) (idle_half v)
-splits g id v room st holds at = (holds.0, (holds.1.0, split-says g (mem_of g.plan st.words) st.views holds.1.0 holds.1.1 id v (found st.views id v at) room), holds.2)

@@ -8,7 +8,7 @@ use Rattle.record_core.proofs.TotalFacts.{total-map, total-member, total-two_mem
 use Rattle.record_core.proofs.CountFacts.{times-some}
 use Rattle.record_core.proofs.BelowFacts.{below-member}
 use Rattle.kt_words.specs.StateWords.{phase_of}
-use Rattle.table_core.specs.Addresses.{Mem, state, head, next, mem_of, units_of}
+use Rattle.table_core.specs.Addresses.{Mem, state, head, next, units_of}
 use Rattle.table_core.specs.Holdings.{Waiter}
 use Rattle.table_core.specs.WaitLists.{Waits, waits_at, chains_at, listed, stands, WaitSound}
 use Rattle.table_core.specs.WaitLaws.{Standing, InList, InChain, InHand, IsInChain, IsWaiter, StandsAt, WaitersStandOnce, OnlyWaitersStand}
@@ -224,10 +224,10 @@ module _ (g : Setup) (m : Mem) (vs : List View) (sound : WaitSound (λ x. m (sta
 
 -- a record that waits stands in one place
 pub waiters_stand_once : WaitersStandOnce
-waiters_stand_once g ws vs holds w near waiting =
-    let m : Mem = mem_of g.plan ws in let t = place g m vs (holds.1.1 waits) w near waiting in
-    (t.0, t.1, λ q is. one-place g m vs (holds.1.1 waits) w near waiting t.0 q t.1 is)
+waiters_stand_once g m vs lawful w near waiting =
+    let t = place g m vs (lawful.1 waits) w near waiting in
+    (t.0, t.1, λ q is. one-place g m vs (lawful.1 waits) w near waiting t.0 q t.1 is)
 
 -- a record that does not wait stands in none
 pub only_waiters_stand : OnlyWaitersStand
-only_waiters_stand g ws vs holds w p is = only-waits g (mem_of g.plan ws) vs (holds.1.1 waits) w p is
+only_waiters_stand g m vs lawful w p is = only-waits g m vs (lawful.1 waits) w p is

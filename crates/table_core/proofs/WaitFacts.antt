@@ -1,8 +1,8 @@
 -- Where records wait, where words that the lists do not read change, and what passes have.
-use Rattle.std.proofs.Common.{◌≡◌, ◌≢◌, ◌∙◌, ◌⊎◌, inl, inr, ℕ, zero, suc, ◌+◌, ◌<◌, ◌≤◌, Bool, true, false, cond, ◌==◌, List, [], refl, sym, ap, subst, true≢false, arith}
+use Rattle.std.proofs.Common.{◌≡◌, ◌≢◌, ◌∙◌, ◌⊎◌, inl, inr, ℕ, ◌<◌, ◌≤◌, Bool, true, false, cond, ◌==◌, List, [], refl, sym, ap, subst, true≢false, arith}
 use Rattle.std.specs.Prelude.{slice_set, nat_lt, not, ◌&&◌}
 use Rattle.std.proofs.lemmas.Bool.{cases_eq, eq-eqb, ne_eqb, and_left, false_from_ne_true}
-use Rattle.record_core.specs.Sums.{total, below}
+use Rattle.record_core.specs.Sums.{total}
 use Rattle.record_core.specs.Counting.{At, Has, one_if, times}
 use Rattle.record_core.proofs.TotalFacts.{total-member, total-set, total-le}
 use Rattle.record_core.proofs.BelowFacts.{below-same}
@@ -13,7 +13,7 @@ use Rattle.table_core.specs.Addresses.{units_of}
 use Rattle.table_core.specs.Lists.{Each}
 use Rattle.table_core.specs.Holdings.{Waiter, Done}
 use Rattle.table_core.specs.References.{is_live, is_record}
-use Rattle.table_core.specs.Own.{done_at, is_in}
+use Rattle.table_core.specs.Own.{done_at}
 use Rattle.table_core.specs.WaitLists.{chained, link_to, Follows, IsLinked, Waits, waits_at, chains_at, unclosed_at, is_open, listed, stands, WaitSound}
 use Rattle.table_core.proofs.ListFacts.{total-has, each-set}
 use Rattle.table_core.proofs.ClassFacts.{live-phase, record-phase}
@@ -51,32 +51,6 @@ module _ (states heads nexts : ℕ → ℕ) where
     numbers = λ k v at. (each k v at).numbers;
     linked = λ k v at. (each k v at).linked;
   }
-
-  -- where all lists are empty, and those of done records closed, hands have the records that wait
-  pub waits-empty : (g : Plan) (vs : List Waits) → ((u : ℕ) → u < units_of g → is_live (states u) ≡ true → is_open states heads u ≡ true)
-      → ((u : ℕ) → u < units_of g → is_open states heads u ≡ true → (heads u ≡ 0) × (phase_of (states u) ≢ 5))
-      → ((w : ℕ) → total (λ v. waits_at w v.waiting) vs + total (λ v. chains_at w v.chains) vs ≡ is_in g states 2 w)
-      → Each IsWaitHand vs → WaitSound states heads nexts g vs
-  waits-empty g vs live lists waiting each = waits-from g vs live
-      (λ u near is still. absurd ((lists u near still).1 is))
-      (λ w. omega (arith, waiting w, below-same (λ u. times w (listed states heads nexts u)) (λ u. 0) (units_of g) (λ u near. ap (times w) (none-listed u near)), below-none (units_of g)))
-      (λ u near still.
-      let none = none-listed u near in (
-        subst (Follows nexts) (sym none) tt,
-        ap link_of (lists u near still).0 ∙ ap link_to (sym none),
-      ))
-      each
-    where
-      below-none : (n : ℕ) → below (λ u. 0) n ≡ 0
-      below-none zero = refl
-      below-none (suc n) = omega (arith, below-none n)
-
-      none-listed : (u : ℕ) → u < units_of g → listed states heads nexts u ≡ []
-      none-listed u near = by (is_open states heads u) refl
-        where
-          by : (b : Bool) → is_open states heads u ≡ b → listed states heads nexts u ≡ []
-          by true e = ap (λ (b : Bool). cond b (chained nexts (link_of (heads u)) (length_of (heads u))) []) e ∙ ap (λ (h : ℕ). chained nexts (link_of h) (length_of h)) (lists u near e).0
-          by false e = ap (λ (b : Bool). cond b (chained nexts (link_of (heads u)) (length_of (heads u))) []) e
 
   -- passes that have the same together
   pub waits-same : (g : Plan) (vs vs' : List Waits) → WaitSound states heads nexts g vs → ((u : ℕ) → total (λ v. unclosed_at u v.done) vs' ≡ total (λ v. unclosed_at u v.done) vs)

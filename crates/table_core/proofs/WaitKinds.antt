@@ -141,16 +141,6 @@ module _ (g : Setup) (id : ℕ) (v : View) where
     (refl, refl),
   )
 
-  -- link: a waiter of the hand
-  pub links-at : (x : Waiter) → Has x v.waiting → 1 ≤ v.parts → (seen_head : ℕ)
-      → Keeps g id v (next x.unit) (λ n. link_of seen_head) (λ r w. (n : ℕ) × (w ≡ saw (next x.unit) n (linked x.unit seen_head v)))
-  links-at x has in_use seen_head m vs s l at small = (
-    saw (next x.unit) (m (next x.unit)) (linked x.unit seen_head v),
-    link-parts m vs s l at x has in_use seen_head,
-    (m (next x.unit), refl),
-    (refl, refl),
-  )
-
   -- unchain: the first of a chain of the hand
   pub unchains-at : (u : ℕ) (members : List ℕ) → Has (u ∷ members) v.chains → 1 ≤ v.parts
       → Keeps g id v (next u) (λ n. n) (λ r w. (rest : List ℕ) × (number : ℕ) × (w ≡ saw (next u) r (unchained u number rest v)) × IsRest v.chains u r rest)

@@ -1,5 +1,5 @@
 -- Waiters, done records and chains of a hand, of which one changes.
-use Rattle.std.proofs.Common.{◌≡◌, ◌≢◌, ◌∙◌, ℕ, suc, ◌+◌, ◌≤◌, Bool, true, false, cond, ◌==◌, not, Option, Some, None, List, [], ◌∷◌, map, length, refl, sym, ap, subst, true≢false, arith}
+use Rattle.std.proofs.Common.{◌≡◌, ◌≢◌, ◌∙◌, ℕ, ◌+◌, ◌≤◌, Bool, true, false, cond, ◌==◌, not, Option, Some, None, List, [], ◌∷◌, map, refl, sym, ap, subst, true≢false, arith}
 use Rattle.std.proofs.lemmas.Bool.{eqb-true, eq-eqb, and_parts, and_from}
 use Rattle.record_core.specs.Counting.{At, Has, one_if, times, dropped}
 use Rattle.record_core.proofs.CountFacts.{total-dropped}
@@ -9,7 +9,7 @@ use Rattle.table_core.specs.Holdings.{Waiter, Done}
 use Rattle.table_core.specs.Own.{done_at}
 use Rattle.table_core.specs.WaitLists.{IsLinked, waits_at, chains_at, unclosed_at}
 use Rattle.table_core.specs.WaitViews.{is_waiter_at, link_in, close_in, with_chain, same_list}
-use Rattle.table_core.proofs.ListFacts.{each-cons, each-tail, dropped-one, total-has, length-dropped-has}
+use Rattle.table_core.proofs.ListFacts.{each-cons, each-tail, dropped-one, total-has}
 use Rattle.table_core.proofs.BagFacts.{one-apart}
 use Rattle.table_core.proofs.WaitFacts.{waits-counts}
 
@@ -29,15 +29,6 @@ module _ (w head : ℕ) where
           → waits_at y (cond b (record x { linked = Some head } ∷ l) (x ∷ link_in w head l)) ≡ waits_at y (x ∷ l)
       by true rest = refl
       by false rest = omega (arith, rest)
-
-  -- a link leaves the number of waiters
-  pub length-link_in : (l : List Waiter) → length (link_in w head l) ≡ length l
-  length-link_in [] = refl
-  length-link_in (x ∷ l) = by (is_waiter_at w x) (length-link_in l)
-    where
-      by : (b : Bool) → length (link_in w head l) ≡ length l → length (cond b (record x { linked = Some head } ∷ l) (x ∷ link_in w head l)) ≡ suc (length l)
-      by true rest = refl
-      by false rest = ap suc rest
 
   -- what does not read the link holds of each waiter after a link
   pub each-link_in : (P : Waiter → Type 0) → ((x : Waiter) → P x → P (record x { linked = Some head })) → (l : List Waiter) → Each P l → Each P (link_in w head l)
@@ -101,15 +92,6 @@ module _ (u : ℕ) where
       by true rest = refl
       by false rest = ap (λ (us : List ℕ). d.unit ∷ us) rest
 
-  -- a close leaves the number of done records
-  pub length-close_in : (l : List Done) → length (close_in u l) ≡ length l
-  length-close_in [] = refl
-  length-close_in (d ∷ l) = by (d.unit == u) (length-close_in l)
-    where
-      by : (b : Bool) → length (close_in u l) ≡ length l → length (cond b (record d { closed = true } ∷ l) (d ∷ close_in u l)) ≡ suc (length l)
-      by true rest = refl
-      by false rest = ap suc rest
-
   -- lists of other records stay to be closed
   pub unclosed-close_in : (y : ℕ) → y ≢ u → (l : List Done) → unclosed_at y (close_in u l) ≡ unclosed_at y l
   unclosed-close_in y ne [] = refl
@@ -169,11 +151,6 @@ pub each-with : (P : List ℕ → Type 0) (c : List ℕ) (cs : List (List ℕ)) 
 each-with P [] cs here all = all
 each-with P (u ∷ us) cs here all = each-cons P (u ∷ us) cs here all
 
--- one chain more makes at most one more
-pub length-with : (c : List ℕ) (cs : List (List ℕ)) → length (with_chain c cs) ≤ 1 + length cs
-length-with [] cs = omega arith
-length-with (u ∷ us) cs = omega arith
-
 -- the test of a chain tells it
 list-only : (c d : List ℕ) → same_list c d ≡ true → d ≡ c
 list-only [] [] e = refl
@@ -190,7 +167,3 @@ list-passes (x ∷ xs) = and_from (x == x) (same_list xs xs) (eq-eqb x x refl) (
 -- a chain leaves the hand
 pub chains-dropped : (y : ℕ) (c : List ℕ) (cs : List (List ℕ)) → Has c cs → chains_at y (dropped (same_list c) cs) + times y c ≡ chains_at y cs
 chains-dropped y c cs has = dropped-one (same_list c) c (λ d e. list-only c d e) (list-passes c) (times y) cs has
-
--- without one of its chains a hand has one fewer
-pub length-chains_dropped : (c : List ℕ) (cs : List (List ℕ)) → Has c cs → length (dropped (same_list c) cs) + 1 ≡ length cs
-length-chains_dropped c cs has = length-dropped-has (same_list c) cs c has (list-passes c)

@@ -14,10 +14,8 @@ pub mod Sights
 pub mod Views
 pub mod RecordViews
 pub mod WaitViews
-pub mod Unbuilt
 pub mod Steps
 pub mod Parts
 pub mod RuleLaws
 pub mod WaitLaws
 pub mod Naming
-pub mod Opened

@@ -3,7 +3,7 @@
 use Rattle.std.specs.Prelude.{◌≡◌, ℕ, ◌+◌, ◌<◌, List, map, length, slice_get, slice_set, Some, cond, ◌==◌}
 use Rattle.record_core.specs.Sums.{total}
 use Rattle.kt_words.specs.StateWords.{IsStateWord}
-use Rattle.table_core.specs.Addresses.{Addr, Mem, super, state, refs, head, next, task, root, sum, frame_in, put, units_of, words_of, mem_of}
+use Rattle.table_core.specs.Addresses.{Addr, Mem, super, state, refs, head, next, task, root, sum, frame_in, put, units_of}
 use Rattle.record_core.specs.Counting.{one_if}
 use Rattle.table_core.specs.Lists.{Each}
 use Rattle.table_core.specs.Holdings.{Block, Made, Run, Done}
@@ -14,7 +14,6 @@ use Rattle.table_core.specs.Bounds.{Held, IsBounded, Numbered, NumbersSound}
 use Rattle.table_core.specs.References.{Bag, IsReferred, FramesFit}
 use Rattle.table_core.specs.Own.{Hands, OwnSound, record_words}
 use Rattle.table_core.specs.Roots.{Turn, RootsSound}
-use Rattle.table_core.specs.Unbuilt.{UnbuiltAreZero}
 use Rattle.table_core.specs.Steps.{Stepped}
 use Rattle.table_core.specs.WaitLists.{Waits, WaitSound}
 use Rattle.table_core.specs.Sights.{Knows, SightsSound}
@@ -132,10 +131,6 @@ module _ (g : Setup) where
 
   abbrev pub Lawful : Mem → List View → Type 0
   Lawful m vs = (s : Story) × AllSay s m vs
-
-  -- the same of the words as they lie, and the words that no step writes are 0: this is the rule
-  abbrev pub Holds : List ℕ → List View → Type 0
-  Holds ws vs = (length ws ≡ words_of g.plan) × Lawful (mem_of g.plan ws) vs × UnbuiltAreZero (mem_of g.plan ws)
 
   -- A step that writes f of what it finds at one word may be made: whatever the table is then, with some new view of the pass all
   -- parts say what they said, of the same story; the pass has seen what was found, and the view is what the step tells.

@@ -2,10 +2,10 @@
 use Rattle.std.specs.Prelude.{◌≡◌, ℕ, ◌<◌, List}
 use Rattle.record_core.specs.Counting.{At}
 use Rattle.kt_words.specs.StateWords.{phase_of}
-use Rattle.table_core.specs.Addresses.{Mem, state, head, next, mem_of, units_of}
+use Rattle.table_core.specs.Addresses.{Mem, state, head, next, units_of}
 use Rattle.table_core.specs.Holdings.{Waiter}
 use Rattle.table_core.specs.WaitLists.{listed}
-use Rattle.table_core.specs.Parts.{Holds}
+use Rattle.table_core.specs.Parts.{Lawful}
 use Rattle.table_core.specs.declared.setup.Setup.{Setup}
 use Rattle.table_core.specs.declared.view.View.{View}
 
@@ -37,10 +37,10 @@ module _ (g : Setup) (m : Mem) (vs : List View) where
 
 -- a record that waits stands in one place, and in no other
 abbrev pub WaitersStandOnce : Type 0
-WaitersStandOnce = (g : Setup) (ws : List ℕ) (vs : List View) → Holds g ws vs → (w : ℕ) → w < units_of g.plan → phase_of (mem_of g.plan ws (state w)) ≡ 2
-    → (p : Standing) × StandsAt g (mem_of g.plan ws) vs w p × ((q : Standing) → StandsAt g (mem_of g.plan ws) vs w q → q ≡ p)
+WaitersStandOnce = (g : Setup) (m : Mem) (vs : List View) → Lawful g m vs → (w : ℕ) → w < units_of g.plan → phase_of (m (state w)) ≡ 2
+    → (p : Standing) × StandsAt g m vs w p × ((q : Standing) → StandsAt g m vs w q → q ≡ p)
 
 -- what stands in a place is a record that waits
 abbrev pub OnlyWaitersStand : Type 0
-OnlyWaitersStand = (g : Setup) (ws : List ℕ) (vs : List View) → Holds g ws vs → (w : ℕ) (p : Standing) → StandsAt g (mem_of g.plan ws) vs w p
-    → (w < units_of g.plan) × (phase_of (mem_of g.plan ws (state w)) ≡ 2)
+OnlyWaitersStand = (g : Setup) (m : Mem) (vs : List View) → Lawful g m vs → (w : ℕ) (p : Standing) → StandsAt g m vs w p
+    → (w < units_of g.plan) × (phase_of (m (state w)) ≡ 2)

@@ -3,8 +3,7 @@
 //!
 //! `specs/Addresses.antt` says where each word lies, `Views.antt` what a step does to a view, and
 //! `Story.antt` what has happened. The rule is a list of parts (`Parts.antt`); what they say stands
-//! in the files that it names, and in `Unbuilt.antt` which words no step writes yet. `Steps.antt`
-//! says what every step tells.
+//! in the files that it names. `Steps.antt` says what every step tells.
 #![tactic(auto)]
 
 mod laws;

@@ -1,5 +1,5 @@
 -- A join, try by try.
-use Rattle.std.proofs.Common.{◌≡◌, ◌≢◌, ◌∙◌, ◌⊎◌, inl, inr, ℕ, zero, suc, ◌+◌, ◌-◌, ◌<◌, ◌≤◌, Option, List, [], ◌∷◌, refl, sym, ap, subst, arith}
+use Rattle.std.proofs.Common.{◌≡◌, ◌≢◌, ◌∙◌, ◌⊎◌, inl, inr, ℕ, zero, suc, ◌+◌, ◌-◌, ◌<◌, ◌≤◌, Option, Some, List, [], ◌∷◌, ◌++◌, refl, sym, ap, subst, arith}
 use Rattle.std.proofs.lemmas.Bool.{cases_eq}
 use Rattle.record_core.specs.Counting.{At, Has, times, dropped}
 use Rattle.kt_words.specs.declared.plan.Plan.{Plan}
@@ -8,7 +8,9 @@ use Rattle.kt_words.specs.declared.head_word.HeadWord.TheVariants.{Listed, Close
 use Rattle.kt_words.specs.HeadWords.{FitsHeadWord, closed_word, length_of, packed_head}
 use Rattle.kt_words.proofs.HeadWordFacts.{head_word_says_its_numbers, head_word_has_one_value, listed_is_not_closed}
 use Rattle.table_core.specs.Addresses.{Addr, head, next, units_of}
-use Rattle.table_core.specs.Holdings.{Waiter, Sight, SawHead}
+use Rattle.task_meaning.specs.Worths.{Accepted}
+use Rattle.table_core.specs.Holdings.{Sight, SawHead, SawTask}
+use Rattle.table_core.specs.Story.{Fact, IsAccepted}
 use Rattle.table_core.specs.Sights.{IsLater}
 use Rattle.table_core.specs.Views.{saw}
 use Rattle.table_core.specs.WaitViews.{saw_head, is_waiter_at, link_in, tried, joined_list}
@@ -17,11 +19,12 @@ use Rattle.table_core.proofs.ListFacts.{same_some, each-cons, each-none}
 use Rattle.step_table.specs.declared.pass.Pass.{Pass}
 use Rattle.step_table.specs.declared.record_tokens.Linkable.{Linkable}
 use Rattle.step_table.specs.Passes.{view}
+use Rattle.schedule_rule.specs.LifeViews.{KnowsBehind, SawOver, knowing}
 use Rattle.step_table.specs.RecordHands.{HasFuture}
-use Rattle.step_table.specs.ListHands.{IsOpenHead, IsWaiter, MayLinkTo, last_head}
+use Rattle.step_table.specs.ListHands.{IsOpenHead, MayPush, last_head}
 use Rattle.step_table.specs.ListSteps.{IsFoundHead, SeesHead}
-use Rattle.wait_lists.specs.Joining.{relinked, TryWins, TryLoses, OnList, Waits, IsRelinked, SawClosed}
-use Rattle.wait_lists.proofs.Relinking.{dropped-link_in, relinked-again, relinked-waiter}
+use Rattle.wait_lists.specs.Joining.{MayJoin, MayTry, relinked, TryWins, TryLoses, OnList, Waits, IsRelinked, SawClosed}
+use Rattle.wait_lists.proofs.Relinking.{linked-there, dropped-link_in, relinked-again, relinked-waiter}
 
 -- a head of so many that wait: at most so many tries were lost before it was found
 abbrev pub tries_before : Plan → HeadWord → ℕ
@@ -43,7 +46,10 @@ pub record IsJoining (g : Plan) (u w : ℕ) (old now : View) (word : HeadWord) :
   pub unclosed : IsOpenHead word → ¬ Has (head u, closed_word) steps
   pub waiting : IsRelinked w old.waiting now.waiting
   pub few : now.tries ≤ old.tries + tries_before g word
-  pub view_is : now ≡ record old { waiting = now.waiting; sights = now.sights; seen = now.seen; tries = now.tries }
+  pub facts : (more : List Fact) × (now.facts ≡ more ++ old.facts)
+  pub untold : IsOpenHead word → now.facts ≡ old.facts
+  pub over : packed_head word ≡ closed_word → SawOver now u
+  pub view_is : now ≡ record old { waiting = now.waiting; sights = now.sights; facts = now.facts; seen = now.seen; tries = now.tries }
 
 -- a step on another word or of another number is not the one that found the head closed
 pair-apart : (u : ℕ) (step : Addr × ℕ) → step.1 ≢ closed_word → step ≡ (head u, closed_word) → ⊥
@@ -61,7 +67,7 @@ not-cons x y l apart none has = by has.0 has.1
 
 -- the first look
 pub join-starts : (g : Plan) (u w : ℕ) (old : Pass) (word : HeadWord) (new : Pass) → SeesHead g u old word new → IsJoining g u w (view old) (view new) word
-join-starts g u w old word new sees = subst (λ (v : View). IsJoining g u w (view old) v word) (sym sees.view_is) (record {
+join-starts g u w old word new sees = subst (λ (v : View). IsJoining g u w (view old) v word) (sym sees.tells.1) (record {
   is_head = sees.is_head;
   steps = (head u, packed_head word) ∷ [];
   on_list = record { since = refl; only = each-cons _ (head u, packed_head word) [] (inl refl) (each-none _); sights = (SawHead u (packed_head word) ∷ [], refl) };
@@ -71,6 +77,9 @@ join-starts g u w old word new sees = subst (λ (v : View). IsJoining g u w (vie
   unclosed = λ opened. not-cons (head u, closed_word) (head u, packed_head word) [] (pair-apart u (head u, packed_head word) opened) (λ has. each-none (λ x. ⊥) has.0 (head u, closed_word) has.1);
   waiting = inl refl;
   few = omega arith;
+  facts = (sees.tells.0, refl);
+  untold = λ opened. ap (λ (l : List Fact). l ++ (view old).facts) (sees.tells.2 opened);
+  over = λ closed. subst (λ (v : View). SawOver v u) sees.tells.1 (sees.tells.3 closed);
   view_is = refl;
 })
 
@@ -120,7 +129,7 @@ module _ (g : Plan) (u : ℕ) (waiter : Linkable) (old : View) (now new : Pass) 
 
   -- after a lost try
   pub join-goes-on : (lost : Linkable × HeadWord) → TryLoses g u waiter word now lost new → IsJoining g u w old (view new) lost.1
-  join-goes-on lost loses = subst (λ (v : View). IsJoining g u w old v lost.1) (sym loses.view_is) (record {
+  join-goes-on lost loses = subst (λ (v : View). IsJoining g u w old v lost.1) (sym loses.tells.1) (record {
     is_head = loses.is_head;
     steps = (head u, packed_head lost.1) ∷ (next w, loses.found) ∷ joining.steps;
     on_list = record {
@@ -135,7 +144,10 @@ module _ (g : Plan) (u : ℕ) (waiter : Linkable) (old : View) (now new : Pass) 
         (not-cons (head u, closed_word) (next w, loses.found) joining.steps (head-next u w loses.found) unclosed-yet);
     waiting = inr (packed_head word, relinked-again w old.waiting (view now).waiting (packed_head word) joining.waiting);
     few = omega (arith, joining.few, before-more lost loses);
-    view_is = ap (λ (v : View). saw (head u) (packed_head lost.1) (saw_head u (packed_head lost.1) (tried (relinked w loses.found (packed_head word) v)))) joining.view_is;
+    facts = (loses.tells.0, ap (λ (l : List Fact). loses.tells.0 ++ l) (joining.untold opened));
+    untold = λ opened'. ap (λ (l : List Fact). l ++ (view now).facts) (loses.tells.2 opened') ∙ joining.untold opened;
+    over = λ closed. subst (λ (v : View). SawOver v u) loses.tells.1 (loses.tells.3 closed);
+    view_is = ap (λ (v : View). knowing loses.tells.0 (saw (head u) (packed_head lost.1) (saw_head u (packed_head lost.1) (tried (relinked w loses.found (packed_head word) v))))) joining.view_is;
   })
 
   -- after a try that won
@@ -150,7 +162,7 @@ module _ (g : Plan) (u : ℕ) (waiter : Linkable) (old : View) (now new : Pass) 
     unclosed = not-cons (head u, closed_word) (head u, packed_head word) ((next w, wins.found) ∷ joining.steps) (pair-apart u (head u, packed_head word) opened)
         (not-cons (head u, closed_word) (next w, wins.found) joining.steps (head-next u w wins.found) unclosed-yet);
     view_is = ap (λ (v : View). saw (head u) (packed_head word) (joined_list w (relinked w wins.found (packed_head word) v))) joining.view_is
-        ∙ ap (λ (l : List Waiter). record old { waiting = l; sights = (view now).sights; seen = (head u, packed_head word) ∷ (next w, wins.found) ∷ (view now).seen; tries = (view now).tries + 1 }) left;
+        ∙ (λ i. record old { waiting = left i; sights = (view now).sights; facts = joining.untold opened i; seen = (head u, packed_head word) ∷ (next w, wins.found) ∷ (view now).seen; tries = (view now).tries + 1 });
   })
     where
       left : dropped (is_waiter_at w) (link_in w (packed_head word) (view now).waiting) ≡ dropped (is_waiter_at w) old.waiting
@@ -158,6 +170,11 @@ module _ (g : Plan) (u : ℕ) (waiter : Linkable) (old : View) (now new : Pass) 
 
   pub wins-few : TryWins u w (packed_head word) now new → (view new).tries ≤ old.tries + (units_of g + 1)
   wins-few wins = omega (arith, ap (λ (v : View). v.tries) wins.view_is, joining.few, open-length word g joining.is_head.fits opened, joining.is_head.few opened)
+
+-- a head that is not listed is closed
+pub unlisted : (word : HeadWord) → ((first : Option ℕ) (length : ℕ) → word ≡ Listed first length → ⊥) → word ≡ Closed
+unlisted Closed not = refl
+unlisted (Listed first length) not = absurd (not first length refl)
 
 -- after the head was found closed
 pub join-closed : (g : Plan) (u w : ℕ) (old now : View) (word : HeadWord) → IsJoining g u w old now word → word ≡ Closed → SawClosed u w old now × (now.tries ≤ old.tries + (units_of g + 1))
@@ -168,23 +185,61 @@ join-closed g u w old now word joining is = (
     closed = subst (λ (n : ℕ). Has (head u, n) joining.steps) (closed-word word is) joining.found;
     sighted = subst (λ (n : ℕ). Has (SawHead u n) now.sights) (closed-word word is) (subst (Has (SawHead u (packed_head word))) (sym joining.sighted) (0, refl));
     waiting = joining.waiting;
+    still = λ x there. relinked-waiter w old.waiting now.waiting x there joining.waiting;
+    over = joining.over (closed-word word is);
+    facts = joining.facts;
     view_is = joining.view_is;
   },
   omega (arith, joining.few, ap (tries_before g) is),
 )
 
+-- a member is one of a longer list
+pub has-behind : {A : Type 0} (x : A) (more l : List A) → Has x l → Has x (more ++ l)
+has-behind x [] l has = has
+has-behind x (y ∷ more) l has = let later = has-behind x more l has in (suc later.0, later.1)
+
 -- what a try needs is there before each
 module _ (g : Plan) (u w : ℕ) (old now : View) (word : HeadWord) (joining : IsJoining g u w old now word) where
-  pub still-refers : HasFuture g u old → HasFuture g u now
+  still-refers : HasFuture g u old → HasFuture g u now
   still-refers has = record { near = has.near; there = subst (λ (v : View). 1 ≤ times u v.futures) (sym joining.view_is) has.there }
 
-  pub still-waits : IsWaiter g w old → IsWaiter g w now
-  still-waits t =
-      let has = t.1 in let y = relinked-waiter w old.waiting now.waiting t.0 has.there has.unit_is joining.waiting in
-      (y.0, record { near = has.near; there = y.1; unit_is = y.2 })
+  fact-there : (f : Fact) → Has f old.facts → Has f now.facts
+  fact-there f has = subst (Has f) (sym joining.facts.1) (has-behind f joining.facts.0 old.facts has)
 
-  pub sight-there : Has (SawHead u (packed_head word)) now.sights
-  sight-there = subst (Has (SawHead u (packed_head word))) (sym joining.sighted) (0, refl)
+  seen-there : (s : Sight) → Has s old.sights → Has s now.sights
+  seen-there s has = subst (Has s) (sym joining.on_list.sights.1) (has-behind s joining.on_list.sights.0 old.sights has)
 
-  pub may-link : IsOpenHead word → MayLinkTo word now
-  may-link opened = (joining.is_head.fits, opened, (u, ap last_head joining.sighted))
+  still-behind : (n m : ℕ) → m ≡ n → KnowsBehind old u n → KnowsBehind now u m
+  still-behind n m same knows =
+      let call : Accepted = knows.0 in let t : ℕ = knows.1 in
+      (call, t, subst (λ (k : ℕ). Has (IsAccepted k call) now.facts) (sym same) (fact-there (IsAccepted n call) knows.2), seen-there (SawTask u t) knows.3, knows.4)
+
+  pub still-may : MayJoin g u w old → MayJoin g u w now
+  still-may may =
+      let still = relinked-waiter w old.waiting now.waiting may.waiter may.at.there joining.waiting in
+      record {
+        future = still-refers may.future;
+        waiter = still.waiter;
+        at = record { near = may.at.near; there = still.there };
+        behind = still-behind may.waiter.number still.waiter.number still.number_is may.behind;
+      }
+
+  pub may-try : IsOpenHead word → MayJoin g u w old → MayTry g u w word now
+  may-try opened may = record {
+    may = still-may may;
+    linkable = (joining.is_head.fits, opened, (u, ap last_head joining.sighted));
+    seen = subst (Has (SawHead u (packed_head word))) (sym joining.sighted) (0, refl);
+  }
+
+-- a waiter that was linked to the head that was seen may be pushed over it
+pub may-push : (g : Plan) (u w found : ℕ) (word : HeadWord) (old new : View) → MayTry g u w word old → new ≡ relinked w found (packed_head word) old → MayPush g u w word new
+may-push g u w found word old new try is = subst (MayPush g u w word) (sym is) (record {
+  future = record { near = try.may.future.near; there = try.may.future.there };
+  waiter = record try.may.waiter { linked = Some (packed_head word) };
+  at = record { near = try.may.at.near; there = linked-there w (packed_head word) old.waiting try.may.waiter try.may.at.there };
+  linked_to = refl;
+  fits = try.linkable.0;
+  opened = try.linkable.1;
+  seen = try.seen;
+  behind = try.may.behind;
+})

@@ -1,13 +1,10 @@
 ghost use Rattle.std.specs.Prelude.{◌≡◌, ◌+◌, ◌≤◌, ◌↔◌, IsSome, IfSome, IfNone};
-ghost use Rattle.kt_words.specs.HeadWords.{FitsHeadWord, packed_head};
-ghost use Rattle.record_core.specs.Counting.{Has};
 ghost use Rattle.table_core.specs.Addresses.{units_of};
-ghost use Rattle.table_core.specs.Holdings.{SawHead};
 ghost use Rattle.step_table.specs.Passes.{view, plan, IsOf, IsSame};
-ghost use Rattle.step_table.specs.RecordHands.{HasFuture};
-ghost use Rattle.step_table.specs.ListHands.{IsWaiter, IsUnclosed, IsChain, MayLinkTo};
+ghost use Rattle.step_table.specs.ListHands.{IsUnclosed, IsChain};
 ghost use Rattle.step_table.specs.ListSteps.{TakesList, TakesFirst};
-ghost use Rattle.wait_lists.specs.Joining.{TriesOnce};
+ghost use Rattle.step_table.specs.Sound.{AreSound};
+ghost use Rattle.wait_lists.specs.Joining.{MayJoin, MayTry, TriesOnce};
 ghost use Rattle.wait_lists.specs.Answers.{Joins};
 
 use crate::joined::Joined;
@@ -24,11 +21,9 @@ fn try_join(
     seen: HeadWord,
 ) -> Result<(), (Linkable, HeadWord)>
     requires table { IsOf shared.now pass.old }
-    requires future { HasFuture (plan shared.now) future.now.unit (view pass.old) }
-    requires waiter { IsWaiter (plan shared.now) waiter.unit (view pass.old) }
-    requires seen { MayLinkTo seen (view pass.old) }
-    requires sight { Has (SawHead future.now.unit (packed_head seen)) (view pass.old).sights }
+    requires may { MayTry (plan shared.now) future.now.unit waiter.unit seen (view pass.old) }
     ensures pass { IsSame pass.old pass.new }
+    ensures sound { AreSound shared.now.setup (view pass.old) (view pass.new) }
     ensures tried { TriesOnce (plan shared.now) future.now.unit
         waiter seen pass.old result pass.new }
 {
@@ -36,14 +31,14 @@ fn try_join(
     shared.push_head(pass, waiter, future, seen)
 }
 
-/// Puts a waiting record on the list of the record of `predecessor`, before all that wait there.
-/// Closed: the list is closed, and the record comes back. It takes at most one try more than the
-/// table has units.
+/// Puts a waiting record on the list of the record of `predecessor`, the task that it is behind,
+/// before all that wait there. Closed: the list is closed, and the record comes back. It takes at
+/// most one try more than the table has units.
 pub fn join_list(shared: &Shared, pass: &mut Pass, waiter: Linkable, predecessor: &Future) -> Joined
     requires table { IsOf shared.now pass.old }
-    requires predecessor { HasFuture (plan shared.now) predecessor.now.unit (view pass.old) }
-    requires waiter { IsWaiter (plan shared.now) waiter.unit (view pass.old) }
+    requires may { MayJoin (plan shared.now) predecessor.now.unit waiter.unit (view pass.old) }
     ensures pass { IsSame pass.old pass.new }
+    ensures sound { AreSound shared.now.setup (view pass.old) (view pass.new) }
     ensures answer { Joins predecessor.now.unit waiter (view pass.old) result (view pass.new) }
     ensures tries { (view pass.new).tries
         ≤ (view pass.old).tries + (units_of (plan shared.now) + 1) }
@@ -71,6 +66,7 @@ pub fn close_list(shared: &Shared, pass: &mut Pass, finished: Finishing) -> (Fin
     requires hand { IsUnclosed (plan shared.now) finished.unit (view pass.old) }
     ensures pass { IsSame pass.old pass.new }
     ensures chain { TakesList (plan shared.now) finished pass.old result pass.new }
+    ensures sound { AreSound shared.now.setup (view pass.old) (view pass.new) }
 {
     shared.swap_head(pass, finished)
 }
@@ -84,6 +80,7 @@ pub fn next_of(shared: &Shared, pass: &mut Pass, chain: Chain) -> Option<(Linkab
     ensures exactly { IsSome result ↔ (1 ≤ chain.length) }
     ensures none { IfNone result (view pass.new ≡ view pass.old) }
     ensures some { IfSome result (λ t. TakesFirst (plan shared.now) chain pass.old t pass.new) }
+    ensures sound { IfSome result (λ t. AreSound shared.now.setup (view pass.old) (view pass.new)) }
 {
     shared.unchain(pass, chain)
 }

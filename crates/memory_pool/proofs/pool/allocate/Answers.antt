@@ -1,4 +1,5 @@
 use Rattle.step_table.specs.Passes.{view}
+use Rattle.memory_pool.proofs.Sounding.{sound-on}
 use Rattle.memory_pool.proofs.Searching.{sees-more-on, gives, keeps-refusal}
 use Rattle.memory_pool.proofs.pool.allocate.Goals as goal
 
@@ -11,3 +12,6 @@ returns-in-Some-clause-answer g c =
 
 pub returns-in-None-clause-last : goal.returns-in-None-clause-last
 returns-in-None-clause-last g c = keeps-refusal c.args.shared.now.setup.plan c.args.class c.args.pass.now c.find.new.pass c.in-None.ensures.none
+
+pub returns-in-Some-clause-sound : goal.returns-in-Some-clause-sound
+returns-in-Some-clause-sound g c = sound-on c.args.shared.now.setup (view c.args.pass.now) (view c.find.new.pass) (view c.claim_in.new.pass) c.in-Some.ensures.sound c.claim_in.ensures.sound

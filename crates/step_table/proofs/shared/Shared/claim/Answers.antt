@@ -5,7 +5,7 @@ use Rattle.std.proofs.lemmas.Nat.Bits.{shr_and_one}
 use Rattle.table_core.specs.Pool.{unit_of}
 use Rattle.table_core.specs.Views.{block}
 use Rattle.table_core.proofs.PoolFacts.{first_below}
-use Rattle.table_core.proofs.PoolKinds.{claims-at}
+use Rattle.schedule_rule.proofs.PoolKinds.{claims-at}
 use Rattle.step_table.proofs.Stepping.{bits-there, cap-units}
 
 one_left : (b : ℕ) → b ≤ 1 → b ≢ 0 → b ≡ 1
@@ -14,7 +14,7 @@ one_left b few some = omega arith
 pub fetch_or_as-found-requires-clause-word : goal.fetch_or_as-found-requires-clause-word
 fetch_or_as-found-requires-clause-word c =
     let g = c.args.self.now.setup.plan in
-    record { place = c.bit_word-word.ensures; there = bits-there g c.args.reserved.superblock c.args.bit c.requires.hand.superblock (omega (arith, c.requires.bit, cap-units g c.args.reserved.class)); built = refl }
+    record { place = c.bit_word-word.ensures; there = bits-there g c.args.reserved.superblock c.args.bit c.requires.hand.superblock (omega (arith, c.requires.bit, cap-units g c.args.reserved.class)); written = refl }
 
 pub fetch_or_as-found-requires-clause-rule : goal.fetch_or_as-found-requires-clause-rule
 fetch_or_as-found-requires-clause-rule c = claims-at c.args.self.now.setup c.args.pass.now.seat.id c.args.pass.now.seat.me.0 c.args.reserved.superblock c.args.reserved.class c.args.bit

@@ -1,11 +1,7 @@
 use Rattle.std.proofs.Common.{◌==◌}
 use prog.Atomic.{either}
 use Rattle.step_table.proofs.shared.Shared.compare_exchange_as.Goals as goal
-use Rattle.step_table.proofs.Stepping.{may_step}
+use Rattle.step_table.proofs.Stepping.{tells-sound}
 
-pub compare_exchange-requires : goal.compare_exchange-requires
-compare_exchange-requires g c =
-    let shared = c.args.self.now.table.shared in let seat = c.args.seat.now in
-    let may = may_step c.args.self.now.setup shared.key shared.table_id.words shared.table_id.slots seat.id c.args.word seat.me g.W.Wish.at (λ n. either (n == c.args.old) c.args.new n) g.W.Wish.told
-    c.args.self.now.keyed c.args.self.now.sized c.requires.word c.requires.rule in
-    (c.requires.table, may.0, may.1)
+pub compare_exchange_of-requires-clause-rule : goal.compare_exchange_of-requires-clause-rule
+compare_exchange_of-requires-clause-rule g c = let seat = c.args.seat.now in tells-sound c.args.self.now.setup seat.id seat.me.0 g.W.Wish.at (λ n. either (n == c.args.old) c.args.new n) g.W.Wish.told c.requires.rule

@@ -1,10 +1,6 @@
-use Rattle.std.proofs.Common.{◌+◌, ◌-◌, ◌%◌, ◌^◌}
+use Rattle.step_table.specs.Seats.{less_by}
 use Rattle.step_table.proofs.shared.Shared.fetch_sub_as.Goals as goal
-use Rattle.step_table.proofs.Stepping.{may_step}
+use Rattle.step_table.proofs.Stepping.{tells-sound}
 
-pub fetch_sub-requires : goal.fetch_sub-requires
-fetch_sub-requires g c =
-    let shared = c.args.self.now.table.shared in let seat = c.args.seat.now in
-    let may = may_step c.args.self.now.setup shared.key shared.table_id.words shared.table_id.slots seat.id c.args.word seat.me g.W.Wish.at (λ n. (n + (2 ^ 64 - c.args.k)) % 2 ^ 64) g.W.Wish.told
-    c.args.self.now.keyed c.args.self.now.sized c.requires.word c.requires.rule in
-    (c.requires.table, may.0, may.1)
+pub fetch_sub_of-requires-clause-rule : goal.fetch_sub_of-requires-clause-rule
+fetch_sub_of-requires-clause-rule g c = let seat = c.args.seat.now in tells-sound c.args.self.now.setup seat.id seat.me.0 g.W.Wish.at (less_by c.args.k) g.W.Wish.told c.requires.rule

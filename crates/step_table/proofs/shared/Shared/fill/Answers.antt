@@ -1,7 +1,7 @@
 use Rattle.step_table.proofs.shared.Shared.fill.Goals as goal
-use Rattle.table_core.proofs.FillKinds.{fills-at}
+use Rattle.schedule_rule.proofs.FillKinds.{fills-at}
 use Rattle.step_table.specs.RecordHands.{word_of_record}
-use Rattle.step_table.proofs.RecordStepping.{own-there, own-built, fill-at, fill-own, fill-filled}
+use Rattle.step_table.proofs.RecordStepping.{own-there, own-written, fill-at, fill-own, fill-filled}
 
 pub own_word-lies-requires : goal.own_word-lies-requires
 own_word-lies-requires c = fill-at c.args.self.now.setup.plan c.args.unit c.args.word c.args.pass.now.seat.me.0 c.requires.may
@@ -9,7 +9,7 @@ own_word-lies-requires c = fill-at c.args.self.now.setup.plan c.args.unit c.args
 pub store_as-requires-clause-word : goal.store_as-requires-clause-word
 store_as-requires-clause-word c =
     let g = c.args.self.now.setup.plan in
-    record { place = c.own_word-lies.ensures; there = own-there g c.args.unit c.args.word (fill-at g c.args.unit c.args.word c.args.pass.now.seat.me.0 c.requires.may); built = own-built g c.args.word c.args.unit }
+    record { place = c.own_word-lies.ensures; there = own-there g c.args.unit c.args.word (fill-at g c.args.unit c.args.word c.args.pass.now.seat.me.0 c.requires.may); written = own-written g c.args.word c.args.unit }
 
 pub store_as-requires-clause-rule : goal.store_as-requires-clause-rule
 store_as-requires-clause-rule c =

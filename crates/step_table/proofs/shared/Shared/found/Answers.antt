@@ -1,12 +1,12 @@
 use Rattle.step_table.proofs.shared.Shared.found.Goals as goal
 use Rattle.std.proofs.Common.{refl, arith}
-use Rattle.table_core.proofs.RecordKinds.{founds-at}
+use Rattle.schedule_rule.proofs.RecordKinds.{founds-at}
 use Rattle.step_table.specs.Passes.{block_of}
 use Rattle.step_table.proofs.RecordStepping.{state-there}
 
 pub store_as-requires-clause-word : goal.store_as-requires-clause-word
 store_as-requires-clause-word c =
-    record { place = c.state_word-word.ensures; there = state-there c.args.self.now.setup.plan c.args.block.unit c.requires.hand.is_block.inside; built = refl }
+    record { place = c.state_word-word.ensures; there = state-there c.args.self.now.setup.plan c.args.block.unit c.requires.hand.is_block.inside; written = refl }
 
 pub store_as-requires-clause-rule : goal.store_as-requires-clause-rule
 store_as-requires-clause-rule c =

@@ -5,9 +5,9 @@ use Rattle.table_core.specs.Addresses.{super}
 use Rattle.table_core.specs.Views.{joined, spent, saw}
 use Rattle.table_core.specs.declared.setup.Setup.{Setup}
 use Rattle.table_core.specs.declared.view.View.{View}
-use Rattle.table_core.proofs.Rule.{holds_at}
-use Rattle.table_core.proofs.Joining.{joins}
-use Rattle.table_core.proofs.PoolKinds.{glances-at}
+use Rattle.schedule_rule.proofs.Rule.{holds_at}
+use Rattle.schedule_rule.proofs.Joining.{joins}
+use Rattle.schedule_rule.proofs.PoolKinds.{glances-at}
 use Rattle.std.proofs.lemmas.List.{length-append}
 use Rattle.step_table.specs.LastLooks.{KeepsNewest}
 use Rattle.step_table.proofs.LooksFacts.{joined-length, keeps-joined}
@@ -73,3 +73,6 @@ invariant_of-result-clause-turns c =
     let joined_view = ap (λ (me : Me (Unit {0}) View). me.0) c.join_seat.ensures.2 in
     let both = c.load_as.ensures.told.0 ∙ ap (λ (v : View). saw (super 0) c.load_as.result v) joined_view in
     c.either.ensures ∙ (λ k. other.turns k ++ keep.turns k) ∙ sym (ap (λ (v : View). v.turn) both)
+
+pub returns-clause-sound : goal.returns-clause-sound
+returns-clause-sound c = c.load_as.ensures.sound.after

@@ -7,7 +7,7 @@ use Rattle.step_table.proofs.ListStepping.{links-value}
 use Rattle.step_table.proofs.RecordStepping.{next-there}
 
 pub store_as-requires-clause-word : goal.store_as-requires-clause-word
-store_as-requires-clause-word c = record { place = c.own_word-word.ensures; there = next-there c.args.self.now.setup.plan c.args.waiter.now.unit (c.requires.hand.1).near; built = refl }
+store_as-requires-clause-word c = record { place = c.own_word-word.ensures; there = next-there c.args.self.now.setup.plan c.args.waiter.now.unit (c.requires.hand.1).near; written = refl }
 
 pub store_as-requires-clause-rule : goal.store_as-requires-clause-rule
 store_as-requires-clause-rule c =

@@ -3,13 +3,13 @@ use Rattle.std.proofs.Common.{ℕ, ◌∙◌, length, sym, subst, ap, arith, ref
 use Rattle.table_core.specs.Addresses.{super}
 use Rattle.table_core.specs.Views.{saw, looked, look_of}
 use Rattle.table_core.specs.declared.view.View.{View}
-use Rattle.table_core.proofs.PoolKinds.{looks-at}
+use Rattle.schedule_rule.proofs.PoolKinds.{looks-at}
 use Rattle.step_table.specs.LastLooks.{KeepsNewest}
 use Rattle.step_table.proofs.LooksFacts.{keeps-looked}
 use Rattle.step_table.proofs.Stepping.{super-there}
 
 pub load_as-found-requires-clause-word : goal.load_as-found-requires-clause-word
-load_as-found-requires-clause-word c = record { place = c.super_word-word.ensures; there = super-there c.args.self.now.setup.plan c.args.superblock c.requires.superblock; built = refl }
+load_as-found-requires-clause-word c = record { place = c.super_word-word.ensures; there = super-there c.args.self.now.setup.plan c.args.superblock c.requires.superblock; written = refl }
 
 pub load_as-found-requires-clause-rule : goal.load_as-found-requires-clause-rule
 load_as-found-requires-clause-rule c = looks-at c.args.self.now.setup c.args.pass.now.seat.id c.args.pass.now.seat.me.0 c.args.superblock c.args.class c.requires.superblock

@@ -1,10 +1,10 @@
 use Rattle.step_table.proofs.shared.Shared.more.Goals as goal
 use Rattle.std.proofs.Common.{refl, arith}
-use Rattle.table_core.proofs.ReferenceKinds.{mores-at}
+use Rattle.schedule_rule.proofs.ReferenceKinds.{mores-at}
 use Rattle.step_table.proofs.RecordStepping.{refs-there}
 
 pub fetch_add_as-requires-clause-word : goal.fetch_add_as-requires-clause-word
-fetch_add_as-requires-clause-word c = record { place = c.refs_word-word.ensures; there = refs-there c.args.self.now.setup.plan c.args.future.now.unit c.requires.hand.near; built = refl }
+fetch_add_as-requires-clause-word c = record { place = c.refs_word-word.ensures; there = refs-there c.args.self.now.setup.plan c.args.future.now.unit c.requires.hand.near; written = refl }
 
 pub fetch_add_as-requires-clause-rule : goal.fetch_add_as-requires-clause-rule
 fetch_add_as-requires-clause-rule c =

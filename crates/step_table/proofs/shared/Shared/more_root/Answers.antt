@@ -3,7 +3,7 @@ use Rattle.std.proofs.Common.{◌∙◌, ℕ, ◌<◌, List, refl, sym, subst, a
 use Rattle.record_core.specs.Counting.{At}
 use Rattle.table_core.specs.Addresses.{units_of}
 use Rattle.table_core.specs.Holdings.{RootSays, Record}
-use Rattle.table_core.proofs.RootKinds.{root-mores-at}
+use Rattle.schedule_rule.proofs.NamingKinds.{root-mores-at}
 use Rattle.step_table.proofs.RecordStepping.{refs-there}
 use Rattle.step_table.proofs.Naming.{one-record}
 
@@ -26,7 +26,7 @@ fetch_add_as-requires-clause-word c =
       place = c.refs_word-word.ensures;
       there = refs-there g c.unit_of-unit.result
           (its_record root.asked c.args.root c.unit_of-unit.result root.unit (units_of g) (sym (c.named.ensures root.asked root.has_turn) ∙ c.unit_of-unit.ensures) root.there root.near);
-      built = refl;
+      written = refl;
     }
 
 pub fetch_add_as-requires-clause-rule : goal.fetch_add_as-requires-clause-rule

@@ -20,7 +20,7 @@ word_of-requires c = subst FitsName (sym c.named_by-named.ensures) (name-fits c.
 
 pub store_as-requires-clause-word : goal.store_as-requires-clause-word
 store_as-requires-clause-word c =
-    record { place = c.root_word-lies.ensures; there = root-there c.args.self.now.setup.plan c.args.root (omega (arith, c.requires.may.is_next, c.requires.may.inside, c.args.self.now.setup.plan.roots_fit)); built = refl }
+    record { place = c.root_word-lies.ensures; there = root-there c.args.self.now.setup.plan c.args.root (omega (arith, c.requires.may.is_next, c.requires.may.inside, c.args.self.now.setup.plan.roots_fit)); written = refl }
 
 pub store_as-requires-clause-rule : goal.store_as-requires-clause-rule
 store_as-requires-clause-rule c =

@@ -1,7 +1,7 @@
 use Rattle.step_table.proofs.shared.Shared.read_own.Goals as goal
-use Rattle.table_core.proofs.FillKinds.{reads-at}
+use Rattle.schedule_rule.proofs.ReferenceKinds.{reads-at}
 use Rattle.step_table.specs.RecordHands.{word_of_record}
-use Rattle.step_table.proofs.RecordStepping.{own-there, own-built, read-at}
+use Rattle.step_table.proofs.RecordStepping.{own-there, own-written, read-at}
 
 pub own_word-lies-requires : goal.own_word-lies-requires
 own_word-lies-requires c = read-at c.args.self.now.setup.plan c.args.unit c.args.word c.args.pass.now.seat.me.0 c.requires.may
@@ -9,7 +9,7 @@ own_word-lies-requires c = read-at c.args.self.now.setup.plan c.args.unit c.args
 pub load_as-requires-clause-word : goal.load_as-requires-clause-word
 load_as-requires-clause-word c =
     let g = c.args.self.now.setup.plan in
-    record { place = c.own_word-lies.ensures; there = own-there g c.args.unit c.args.word (read-at g c.args.unit c.args.word c.args.pass.now.seat.me.0 c.requires.may); built = own-built g c.args.word c.args.unit }
+    record { place = c.own_word-lies.ensures; there = own-there g c.args.unit c.args.word (read-at g c.args.unit c.args.word c.args.pass.now.seat.me.0 c.requires.may); written = own-written g c.args.word c.args.unit }
 
 pub load_as-requires-clause-rule : goal.load_as-requires-clause-rule
 load_as-requires-clause-rule c = reads-at c.args.self.now.setup c.args.pass.now.seat.id c.args.pass.now.seat.me.0 (word_of_record c.args.word c.args.unit)

@@ -4,11 +4,11 @@ use Rattle.kt_words.specs.SuperWords.{packed_super, reserved_word}
 use Rattle.table_core.specs.declared.view.View.{View}
 use Rattle.table_core.specs.Addresses.{super}
 use Rattle.table_core.specs.Views.{place, saw, reserved}
-use Rattle.table_core.proofs.PoolKinds.{reserves-at}
+use Rattle.schedule_rule.proofs.PoolKinds.{reserves-at}
 use Rattle.step_table.proofs.Stepping.{super-there, takes-one}
 
 pub compare_exchange_as-found-requires-clause-word : goal.compare_exchange_as-found-requires-clause-word
-compare_exchange_as-found-requires-clause-word c = record { place = c.super_word-word.ensures; there = super-there c.args.self.now.setup.plan c.args.superblock c.requires.superblock; built = refl }
+compare_exchange_as-found-requires-clause-word c = record { place = c.super_word-word.ensures; there = super-there c.args.self.now.setup.plan c.args.superblock c.requires.superblock; written = refl }
 
 pub compare_exchange_as-found-requires-clause-rule : goal.compare_exchange_as-found-requires-clause-rule
 compare_exchange_as-found-requires-clause-rule c =

@@ -9,7 +9,8 @@ use Rattle.table_core.specs.Views.{block, saw}
 use Rattle.table_core.specs.RecordViews.{retired}
 use Rattle.table_core.specs.declared.view.View.{View}
 use Rattle.table_core.proofs.ClassFacts.{superblock_in}
-use Rattle.table_core.proofs.RecordKinds.{retires-at, class-glances-at}
+use Rattle.schedule_rule.proofs.RetireKinds.{retires-at}
+use Rattle.schedule_rule.proofs.SeeingKinds.{class-glances-at}
 use Rattle.step_table.proofs.Stepping.{super-there}
 use Rattle.step_table.proofs.RecordStepping.{state-there}
 
@@ -18,7 +19,7 @@ told_class : (u c n r : ℕ) (v w : View) → w ≡ saw (state u) n (retired u c
 told_class u c n r v w e tells = tells (block u c false) (subst (λ (x : View). Has (block u c false) x.blocks) (sym e) (0, refl)) refl
 
 pub store_as-requires-clause-word : goal.store_as-requires-clause-word
-store_as-requires-clause-word c = record { place = c.state_word-word.ensures; there = state-there c.args.self.now.setup.plan c.args.retiring.unit c.requires.hand.near; built = refl }
+store_as-requires-clause-word c = record { place = c.state_word-word.ensures; there = state-there c.args.self.now.setup.plan c.args.retiring.unit c.requires.hand.near; written = refl }
 
 pub store_as-requires-clause-rule : goal.store_as-requires-clause-rule
 store_as-requires-clause-rule c =
@@ -31,7 +32,7 @@ super_word-word-requires c = superblock_in c.args.self.now.setup.plan c.args.ret
 pub load_as-found-requires-clause-word : goal.load_as-found-requires-clause-word
 load_as-found-requires-clause-word c =
     let g = c.args.self.now.setup.plan in let u = c.args.retiring.unit in
-    record { place = c.super_word-word.ensures; there = super-there g (superblock_of g u) (superblock_in g u c.requires.hand.near); built = refl }
+    record { place = c.super_word-word.ensures; there = super-there g (superblock_of g u) (superblock_in g u c.requires.hand.near); written = refl }
 
 pub load_as-found-requires-clause-rule : goal.load_as-found-requires-clause-rule
 load_as-found-requires-clause-rule c = class-glances-at c.args.self.now.setup c.store_as.new.seat.id c.store_as.new.seat.me.0 c.args.retiring.unit c.requires.hand.near
@@ -51,3 +52,6 @@ returns-clause-block c =
       counted = c.load_as-found.result;
       view_is = seen.0 ∙ ap (λ (w : View). saw (super i) c.load_as-found.result w) (told.2.1 ∙ ap (λ (k : ℕ). saw (state u) told.2.0 (retired u k v)) (sym class_is));
     }
+
+pub returns-clause-sound : goal.returns-clause-sound
+returns-clause-sound c = record { before = c.store_as.ensures.sound.before; after = c.load_as-found.ensures.sound.after }

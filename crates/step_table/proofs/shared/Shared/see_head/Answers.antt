@@ -1,14 +1,13 @@
 use Rattle.step_table.proofs.shared.Shared.see_head.Goals as goal
-use Rattle.std.proofs.Common.{ℕ, ◌∙◌, ◌≤◌, sym, ap, subst, refl}
+use Rattle.std.proofs.Common.{ℕ, ◌∙◌, ◌≤◌, sym, subst, refl}
 use Rattle.kt_words.specs.HeadWords.{length_of}
-use Rattle.table_core.specs.Addresses.{head, units_of}
-use Rattle.table_core.specs.Views.{saw}
-use Rattle.table_core.specs.WaitViews.{saw_head}
-use Rattle.table_core.proofs.WaitKinds.{sees-head-at}
+use Rattle.table_core.specs.Addresses.{units_of}
+use Rattle.schedule_rule.specs.LifeViews.{SawHeadOf}
+use Rattle.schedule_rule.proofs.ListKindsJoin.{sees-head-at}
 use Rattle.step_table.proofs.RecordStepping.{head-there}
 
 pub load_as-found-requires-clause-word : goal.load_as-found-requires-clause-word
-load_as-found-requires-clause-word c = record { place = c.own_word-word.ensures; there = head-there c.args.self.now.setup.plan c.args.future.now.unit c.requires.hand.near; built = refl }
+load_as-found-requires-clause-word c = record { place = c.own_word-word.ensures; there = head-there c.args.self.now.setup.plan c.args.future.now.unit c.requires.hand.near; written = refl }
 
 pub load_as-found-requires-clause-rule : goal.load_as-found-requires-clause-rule
 load_as-found-requires-clause-rule c =
@@ -22,5 +21,5 @@ returns-clause-head c =
     let u = c.args.future.now.unit in let word = c.of.ensures.packed in let told = c.load_as-found.ensures.told in
     record {
       is_head = record { fits = word.0; few = λ opened. subst (λ (n : ℕ). length_of n ≤ units_of c.args.self.now.setup.plan) (sym word.1) (told.2 (λ closed. opened (word.1 ∙ closed))) };
-      view_is = told.0 ∙ ap (λ (n : ℕ). saw (head u) n (saw_head u n c.args.pass.now.seat.me.0)) (sym word.1);
+      tells = subst (λ (n : ℕ). SawHeadOf u c.args.pass.now.seat.me.0 n c.load_as-found.new.seat.me.0) (sym word.1) told.0;
     }

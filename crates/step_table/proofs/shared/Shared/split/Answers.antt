@@ -3,8 +3,8 @@ use Rattle.std.proofs.Common.{sym, subst, arith}
 use Rattle.atomic_table.specs.Table.{Splits}
 use Rattle.table_core.specs.Views.{kept_half, idle_half}
 use Rattle.table_core.specs.declared.setup.Setup.{Setup}
-use Rattle.table_core.proofs.Rule.{holds_at}
-use Rattle.table_core.proofs.Splitting.{splits}
+use Rattle.schedule_rule.proofs.Rule.{holds_at}
+use Rattle.schedule_rule.proofs.Splitting.{splits}
 use Rattle.step_table.proofs.Stepping.{some-words}
 
 pub split_seat-second-requires : goal.split_seat-second-requires

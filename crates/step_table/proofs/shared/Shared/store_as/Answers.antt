@@ -1,9 +1,6 @@
+use Rattle.step_table.specs.Seats.{always}
 use Rattle.step_table.proofs.shared.Shared.store_as.Goals as goal
-use Rattle.step_table.proofs.Stepping.{may_store}
+use Rattle.step_table.proofs.Stepping.{tells-sound}
 
-pub store-requires : goal.store-requires
-store-requires g c =
-    let shared = c.args.self.now.table.shared in let seat = c.args.seat.now in
-    let may = may_store c.args.self.now.setup shared.key shared.table_id.words shared.table_id.slots seat.id c.args.word c.args.new seat.me g.W.Wish.at g.W.Wish.told
-    c.args.self.now.keyed c.args.self.now.sized c.requires.word c.requires.rule in
-    (c.requires.table, may.0, may.1)
+pub store_of-requires-clause-rule : goal.store_of-requires-clause-rule
+store_of-requires-clause-rule g c = let seat = c.args.seat.now in tells-sound c.args.self.now.setup seat.id seat.me.0 g.W.Wish.at (always c.args.new) (λ n. g.W.Wish.told c.args.new) c.requires.rule

@@ -5,7 +5,7 @@ use Rattle.step_table.proofs.ListStepping.{closes-value, chain-stands}
 use Rattle.step_table.proofs.RecordStepping.{head-there}
 
 pub swap_as-head-requires-clause-word : goal.swap_as-head-requires-clause-word
-swap_as-head-requires-clause-word c = record { place = c.own_word-word.ensures; there = head-there c.args.self.now.setup.plan c.args.finishing.unit (c.requires.hand.1).near; built = refl }
+swap_as-head-requires-clause-word c = record { place = c.own_word-word.ensures; there = head-there c.args.self.now.setup.plan c.args.finishing.unit (c.requires.hand.1).near; written = refl }
 
 pub swap_as-head-requires-clause-rule : goal.swap_as-head-requires-clause-rule
 swap_as-head-requires-clause-rule c =

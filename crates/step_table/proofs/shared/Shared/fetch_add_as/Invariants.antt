@@ -1,0 +1,5 @@
+use Rattle.step_table.specs.Sound.{AreSound}
+use Rattle.step_table.proofs.shared.Shared.fetch_add_as.Given as goal
+
+abbrev pub ghosts-fetch_add_of : goal.ghosts-fetch_add_of
+ghosts-fetch_add_of g a = record { at = g.W.Wish.at; told = λ n w. g.W.Wish.told n w × AreSound a.self.now.setup a.seat.now.me.0 w }
