@@ -1,0 +1,137 @@
+-- A new record is placed: it is ready, or it waits and joins the list of its predecessor.
+use Rattle.std.proofs.Common.{◌≡◌, ◌∙◌, inl, inr, ℕ, zero, suc, ◌≤◌, Bool, true, false, cond, Option, Some, None, List, [], ◌∷◌, ◌++◌, refl, sym, ap, subst, append_assoc}
+use Rattle.std.specs.Prelude.{IfSome, slice_get}
+use Rattle.std.proofs.lemmas.Bool.{eq-eqb}
+use Rattle.record_core.specs.Counting.{Has, times, dropped}
+use Rattle.record_core.proofs.TotalFacts.{none_there}
+use Rattle.kt_words.specs.HeadWords.{closed_word}
+use Rattle.kt_words.specs.declared.state_word.StateWord.{StateWord}
+use Rattle.task_syntax.specs.declared.value.Priority.{Priority}
+use Rattle.ready_queues.specs.declared.entry.Entry.{Entry}
+use Rattle.table_core.specs.Addresses.{Addr, head, state}
+use Rattle.table_core.specs.Holdings.{Waiter, Sight, SawTask, seen_at}
+use Rattle.table_core.specs.Story.{IsAccepted}
+use Rattle.table_core.specs.WaitViews.{is_waiter_at, new_waiter}
+use Rattle.table_core.specs.declared.setup.Setup.{Setup}
+use Rattle.table_core.specs.declared.view.View.{View}
+use Rattle.schedule_rule.specs.SoundViews.{SoundView}
+use Rattle.step_table.specs.Lookups.{waiter_in}
+use Rattle.step_table.specs.Passes.{view}
+use Rattle.step_table.specs.PlacingSteps.{Placement, placed_made, word_placed, PlacesMade}
+use Rattle.step_table.specs.RecordHands.{HasFuture}
+use Rattle.step_table.specs.declared.pass.Pass.{Pass}
+use Rattle.step_table.specs.declared.record_tokens.Future.{Future}
+use Rattle.step_table.specs.declared.record_tokens.Made.{Made}
+use Rattle.wait_lists.specs.Joining.{MayJoin}
+use Rattle.schedule_core.specs.Entries.{entry_of}
+use Rattle.schedule_core.specs.Making.{MayPlaceNew, Enters, JoinsBehind, PlacesNew}
+use Rattle.schedule_core.specs.declared.making.Behind.{Behind}
+use Rattle.schedule_core.proofs.Joining.{has-grown}
+use Rattle.schedule_core.proofs.KeptSights.{kept-has}
+
+-- what a list has, a longer one has that begins so
+pub has-before : {A : Type 0} (x : A) (l more : List A) → Has x l → Has x (l ++ more)
+has-before x [] more has = absurd (none_there x has.1)
+has-before x (y ∷ l) more (zero, at) = (0, at)
+has-before x (y ∷ l) more (suc k, at) = let t = has-before x l more (k, at) in (suc t.0, t.1)
+
+-- it enters with more steps as with fewer
+pub enters-more : (unit number : ℕ) (behind : Option Behind) (told : Option Entry) (steps more : List (Addr × ℕ)) → Enters unit number behind told steps → Enters unit number behind told (steps ++ more)
+enters-more unit number behind None steps more enters = enters
+enters-more unit number behind (Some e) steps more (unit_is, number_is, inl none) = (unit_is, number_is, inl none)
+enters-more unit number behind (Some e) steps more (unit_is, number_is, inr (b, is, closed)) = (unit_is, number_is, inr (b, is, has-before (head b.unit, closed_word) steps more closed))
+
+-- what was seen is kept of records to which a reference is left
+kept-placed : (waits : Bool) (g : Setup) (made : Made) (number : ℕ) (x : Placement) (old new : Pass) → PlacesMade g waits made number x old new → (s : Sight) → Has s (view old).sights
+    → 1 ≤ times (seen_at s) (view new).futures → Has s (view new).sights
+kept-placed waits g made number x old new places s has some =
+    let t = kept-has (placed_made waits g.checked made number x (view old)).futures (view old).sights s (subst (λ (v : View). 1 ≤ times (seen_at s) v.futures) places.view_is some) has in
+    subst (λ (v : View). Has s v.sights) (sym places.view_is) (suc t.0, t.1)
+
+-- the record is ready, behind no task
+pub places-ready : (g : Setup) (made : Made) (number unit : ℕ) (behind : Option Behind) (x : Placement) (priority : Priority) (old new : Pass) (word : StateWord) (future : Future) → behind ≡ None → unit ≡ made.unit
+    → word ≡ word_placed false number priority → future.unit ≡ made.unit → PlacesMade g false made number x old new → SoundView g (view new)
+    → PlacesNew g made number behind x (view old) (future, Some (entry_of unit word)) (view new)
+places-ready g made number unit behind x priority old new word future none unit_is word_is future_is places sound = record {
+  future_is = future_is;
+  steps = (state made.unit, places.found) ∷ [];
+  since = ap (λ (v : View). v.seen) places.view_is;
+  enters = (unit_is, ap (λ (w : StateWord). w.number) word_is, inl none);
+  facts = ([], ap (λ (v : View). v.facts) places.view_is);
+  sees = (0, ap (λ (v : View). slice_get v.sights 0) places.view_is);
+  kept = kept-placed false g made number x old new places;
+  sound = sound;
+  view_is = places.view_is
+      ∙ (λ k. record (placed_made false g.checked made number x (view old)) {
+        facts = (sym places.view_is k).facts;
+        sights = (sym places.view_is k).sights;
+        tries = (sym places.view_is k).tries;
+        seen = (sym places.view_is k).seen;
+      });
+}
+
+module _ (g : Setup) (made : Made) (number : ℕ) (x : Placement) (b : Behind) (old mid : Pass) (places : PlacesMade g true made number x old mid) where
+  abbrev u : ℕ
+  u = made.unit
+
+  its-waiter : waiter_in u (view mid).waiting ≡ Some (new_waiter u number)
+  its-waiter = ap (λ (v : View). waiter_in u v.waiting) places.view_is ∙ ap (λ (t : Bool). cond t (Some (new_waiter u number)) (waiter_in u (view old).waiting)) (eq-eqb u u refl)
+
+  its-task : Has (SawTask u number) (view mid).sights
+  its-task = (0, ap (λ (v : View). slice_get v.sights 0) places.view_is)
+
+  -- a record that waits may join the list of its predecessor
+  pub may-join : (behind : Option Behind) (unit : ℕ) → behind ≡ Some b → unit ≡ u → MayPlaceNew g made number behind x old → MayJoin g.plan b.unit unit (view mid)
+  may-join behind unit is unit_is may = subst (λ (w : ℕ). MayJoin g.plan b.unit w (view mid)) (sym unit_is) (record {
+    future = record { near = has.near; there = subst (λ (v : View). 1 ≤ times b.unit v.futures) (sym places.view_is) has.there };
+    waiter = new_waiter u number;
+    at = record { near = m.0.at.is_block.inside; there = its-waiter };
+    behind = (
+      x.call,
+      b.task,
+      subst (λ (v : View). Has (IsAccepted number x.call) v.facts) (sym places.view_is) (subst (λ (n : ℕ). Has (IsAccepted n x.call) (view old).facts) m.0.number_is m.0.may.accepted),
+      subst (λ (v : View). Has (SawTask b.unit b.task) v.sights) (sym places.view_is) m.3,
+      m.1,
+    );
+  })
+    where
+      m : MayPlaceNew g made number (Some b) x old
+      m = subst (λ (o : Option Behind). MayPlaceNew g made number o x old) is may
+
+      has : HasFuture g.plan b.unit (placed_made true g.checked made number x (view old))
+      has = m.2
+
+  gone : dropped (is_waiter_at u) (new_waiter u number ∷ (view old).waiting) ≡ (view old).waiting
+  gone = ap (λ (t : Bool). cond t (view old).waiting (new_waiter u number ∷ dropped (is_waiter_at u) (view old).waiting)) (eq-eqb u u refl)
+
+  -- the record waits, or is ready where the list is closed
+  pub places-waiting : (behind : Option Behind) (told : Option Entry) (future : Future) (unit : ℕ) (new : View) → behind ≡ Some b → unit ≡ u → future.unit ≡ u → JoinsBehind g unit b (view mid) told new
+      → PlacesNew g made number behind x (view old) (future, told) new
+  places-waiting behind told future unit new is unit_is future_is joined' = record {
+    future_is = future_is;
+    steps = joined.steps ++ ((state u, places.found) ∷ []);
+    since = joined.since ∙ ap (λ (v : View). joined.steps ++ v.seen) places.view_is ∙ sym (append_assoc joined.steps ((state u, places.found) ∷ []) (view old).seen);
+    enters = enters-more u number behind told joined.steps ((state u, places.found) ∷ []) (by told joined.enters);
+    facts = (joined.facts.0, joined.facts.1 ∙ ap (λ (v : View). joined.facts.0 ++ v.facts) places.view_is);
+    kept = λ s has some. has-grown s (view mid).sights new.sights joined.sights.0 joined.sights.1 (kept-placed true g made number x old mid places s has
+        (subst (λ (l : List ℕ). 1 ≤ times (seen_at s) l) (ap (λ (v : View). v.futures) joined.view_is) some));
+    sees = has-grown (SawTask u number) (view mid).sights new.sights joined.sights.0 joined.sights.1 its-task;
+    sound = joined.sound;
+    view_is = joined.view_is
+        ∙ (λ k. record (places.view_is k) {
+          waiting = dropped (is_waiter_at u) (places.view_is k).waiting;
+          facts = new.facts;
+          sights = new.sights;
+          tries = new.tries;
+          seen = new.seen;
+        })
+        ∙ (λ k. record (placed_made false g.checked made number x (view old)) { waiting = gone k; facts = new.facts; sights = new.sights; tries = new.tries; seen = new.seen });
+  }
+    where
+      joined : JoinsBehind g u b (view mid) told new
+      joined = subst (λ (w : ℕ). JoinsBehind g w b (view mid) told new) unit_is joined'
+
+      by : (o : Option Entry) → IfSome o (λ e. (e.unit ≡ u) × ((w : Waiter) → waiter_in u (view mid).waiting ≡ Some w → e.number ≡ w.number) × Has (head b.unit, closed_word) joined.steps)
+          → Enters u number behind o joined.steps
+      by None t = (b, is)
+      by (Some e) t = (t.0, t.1 (new_waiter u number) its-waiter, inr (b, is, t.2))

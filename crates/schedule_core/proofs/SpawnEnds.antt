@@ -1,0 +1,304 @@
+-- What comes of a spawn whose record was made.
+use Rattle.std.proofs.Common.{◌≡◌, ◌∙◌, ℕ, ◌+◌, ◌-◌, ◌≤◌, Bool, true, cond, Option, Some, None, List, ◌∷◌, ◌++◌, map, refl, sym, ap, subst, append_assoc, arith}
+use Rattle.std.specs.Prelude.{IfSome}
+use Rattle.std.proofs.lemmas.Bool.{eq-eqb}
+use Rattle.record_core.specs.Counting.{At, Has, times, dropped}
+use Rattle.task_meaning.specs.Worths.{Accepted}
+use Rattle.ready_queues.specs.declared.entry.Entry.{Entry}
+use Rattle.frame_code.specs.Entries.{future_of, number_of}
+use Rattle.frame_code.specs.Moves.{passed_on}
+use Rattle.frame_code.specs.Setting.{with_future}
+use Rattle.frame_code.specs.Units.{named_in}
+use Rattle.frame_code.specs.Words.{BodyOf, OfKind, OfMembers, body_of}
+use Rattle.frame_code.specs.declared.act.SpawnRequest.{SpawnRequest}
+use Rattle.table_core.specs.Addresses.{Addr, sum}
+use Rattle.table_core.specs.Asking.{OfTask, IsLimit}
+use Rattle.table_core.specs.Holdings.{Made as MadeOf, Run, SawTask}
+use Rattle.table_core.specs.Pool.{superblock_of}
+use Rattle.table_core.specs.RecordViews.{is_at, is_made_at, new_made}
+use Rattle.table_core.specs.Story.{IsAccepted}
+use Rattle.table_core.specs.Views.{place, block}
+use Rattle.table_core.specs.WaitViews.{is_run_at}
+use Rattle.table_core.specs.declared.setup.Setup.{Setup}
+use Rattle.table_core.specs.declared.view.View.{View}
+use Rattle.schedule_rule.specs.DrawViews.{ask, changed, drawn_for, drew_for_run, give_number}
+use Rattle.schedule_rule.specs.LifeViews.{with_words}
+use Rattle.schedule_rule.specs.PlacingViews.{is_drawn, past_act, WasSeenAs, WereSeenAs}
+use Rattle.step_table.specs.DrawSteps.{DrewNumber}
+use Rattle.step_table.specs.PlacingSteps.{Placement, PlacedFor, runs_past}
+use Rattle.step_table.specs.declared.record_tokens.Future.{Future}
+use Rattle.step_table.specs.declared.record_tokens.Made.{Made}
+use Rattle.schedule_core.specs.Begins.{MetLimit}
+use Rattle.schedule_core.specs.Making.{Enters, Offers, task_behind}
+use Rattle.schedule_core.specs.Numbers.{GaveBack}
+use Rattle.schedule_core.specs.PastFrames.{past_words}
+use Rattle.schedule_core.specs.Runs.{IsInStep, IsSameKind}
+use Rattle.schedule_core.specs.SeenTasks.{unit_behind, task_seen}
+use Rattle.schedule_core.specs.Spawning.{IsMaking, MaySpawnTask, MayPlaceTask, HasSpawned, asking_of, call_made, kind_class, named_if, task_passed}
+use Rattle.schedule_core.specs.declared.making.Behind.{Behind}
+use Rattle.schedule_core.specs.declared.running.Running.{Running}
+use Rattle.schedule_core.specs.declared.spawning.NewTask.{NewTask}
+use Rattle.schedule_core.proofs.ChangedRuns.{dropped-changed, changed-again}
+use Rattle.schedule_core.proofs.PastFrames.{past-frame}
+use Rattle.schedule_core.proofs.Placing.{has-before, enters-more}
+use Rattle.schedule_core.proofs.AskingActs.{passes-on}
+use Rattle.schedule_core.proofs.SpawnCalls.{seen-has, were-seen}
+use Rattle.schedule_core.proofs.SpawnFrames.{passed-named}
+use Rattle.schedule_core.proofs.SpawnMoves.{in-step-moved}
+use Rattle.schedule_core.proofs.SpawnOffers.{placed_call, placed_for, drew_view}
+use Rattle.schedule_core.proofs.SpawnSights.{named-futures, named-there}
+
+-- a record that stands first is dropped
+first-dropped : (u class : ℕ) (l : List MadeOf) → dropped (is_made_at u) (new_made (block u class true) ∷ l) ≡ l
+first-dropped u class l = ap (λ (b : Bool). cond b l (new_made (block u class true) ∷ dropped (is_made_at u) l)) (eq-eqb u u refl)
+
+-- a number that stands first is dropped
+number-dropped : (n : ℕ) (l : List ℕ) → dropped (is_at n) (n ∷ l) ≡ l
+number-dropped n l = ap (λ (b : Bool). cond b l (n ∷ dropped (is_at n) l)) (eq-eqb n n refl)
+
+-- the record was given back: the limit is met
+pub met-back : (g : Setup) (x : Running) (class : ℕ) (base : View) (made : Made) (v new : View) → IsMaking g x class base made v → GaveBack g made (OfTask x.task) v new → MetLimit g class (asking_of x) base new
+met-back g x class base made v new m gave = record {
+  saw = (
+    gave.saw.0 ++ m.seen.0,
+    gave.saw.1,
+    gave.saw.2 ∙ ap (λ (l : List (Addr × ℕ)). gave.saw.0 ++ l) m.seen.1 ∙ sym (append_assoc gave.saw.0 m.seen.0 base.seen),
+    has-before (sum 0, gave.saw.1) gave.saw.0 m.seen.0 gave.saw.3,
+    gave.saw.4,
+  );
+  looks = (m.looks.0, ap (λ (w : View). w.looks) gave.view_is ∙ m.looks.1);
+  sights = (m.sights.0, ap (λ (w : View). w.sights) gave.view_is ∙ m.sights.1);
+  facts = (m.facts.0, ap (λ (w : View). w.facts) gave.view_is ∙ m.facts.1);
+  superblock = superblock_of g.plan made.unit;
+  view_is = whole
+      ∙ (λ k. record base {
+        made = first-dropped made.unit class base.made k;
+        runs = changed (is_run_at x.started.unit) (with_words x.frame.items) base.runs;
+        answers = record { asker = OfTask x.task; refusal = IsLimit } ∷ base.answers;
+        wins = place (superblock_of g.plan made.unit) class ∷ base.wins;
+        settles = place (superblock_of g.plan made.unit) (m.class_is k) ∷ base.settles;
+        cleared = base.cleared + 1;
+        may_draw = (sym whole k).may_draw;
+        known = new.known;
+        sights = (sym whole k).sights;
+        facts = (sym whole k).facts;
+        seen = new.seen;
+        looks = (sym whole k).looks;
+      });
+}
+  where
+    whole : new ≡ record base {
+      made = dropped (is_made_at made.unit) (new_made (block made.unit class true) ∷ base.made);
+      runs = changed (is_run_at x.started.unit) (with_words x.frame.items) base.runs;
+      answers = record { asker = OfTask x.task; refusal = IsLimit } ∷ base.answers;
+      wins = place (superblock_of g.plan made.unit) class ∷ base.wins;
+      settles = place (superblock_of g.plan made.unit) made.class ∷ base.settles;
+      cleared = base.cleared + 1;
+      may_draw = 0;
+      known = new.known;
+      sights = v.sights;
+      facts = v.facts;
+      seen = new.seen;
+      looks = v.looks;
+    }
+    whole = gave.view_is ∙ (λ k. record (m.view_is k) {
+      made = dropped (is_made_at made.unit) (m.view_is k).made;
+      answers = record { asker = OfTask x.task; refusal = IsLimit } ∷ (m.view_is k).answers;
+      settles = place (superblock_of g.plan made.unit) made.class ∷ (m.view_is k).settles;
+      cleared = (m.view_is k).cleared + 1;
+      may_draw = 0;
+      known = new.known;
+      seen = new.seen;
+    })
+
+-- a frame past its act is of its own kind
+past-kind : (b : BodyOf ℕ) (to : ℕ) (unit : Option ℕ) → IsSameKind (with_future to unit (passed_on b)) b
+past-kind (OfKind q) to unit = refl
+past-kind (OfMembers units next) to unit = (refl, refl)
+
+-- one more and one less is as many
+one-back : (n : ℕ) → n + 1 - 1 ≡ n
+one-back n = omega arith
+
+-- a run that moved on, asked, and is past its act with its number placed
+runs-past : (w : ℕ) (items past : List ℕ) (runs : List Run) → changed (is_run_at w) (past_act past) (changed (is_run_at w) ask (changed (is_run_at w) (with_words items) runs)) ≡ changed (is_run_at w) (with_words past) runs
+runs-past w items past runs =
+    changed-again (is_run_at w) ask (λ y. refl) (past_act past) (changed (is_run_at w) (with_words items) runs)
+    ∙ changed-again (is_run_at w) (with_words items) (λ y. refl) (λ y. past_act past (ask y)) runs
+    ∙ (λ k. changed (is_run_at w) (λ (y : Run). record y { unplaced = one-back y.unplaced k; words = past }) runs)
+
+module _ (g : Setup) (x : Running) (made : Made) (new : NewTask) (behind : Option Behind) (request : SpawnRequest) (placement : Placement) (v : View) (m : MayPlaceTask g x made new behind request placement v)
+    (found n : ℕ) (base : View) (may : MaySpawnTask g x new request base) (making : IsMaking g x (kind_class g.checked request.kind) base made v)
+    (future : Future) (entry : Option Entry) (after : View) where
+  abbrev u : ℕ
+  u = made.unit
+
+  abbrev w : ℕ
+  w = x.started.unit
+
+  abbrev class : ℕ
+  class = kind_class g.checked request.kind
+
+  abbrev drew : View
+  drew = drew_view g x made new behind request placement v m found n
+
+  abbrev past : List ℕ
+  past = past_words g.checked x.frame.items request.to u
+
+  abbrev call : Accepted
+  call = call_made new.kind new.passed behind v.sights
+
+  module _ (offers : Offers g made n behind placement drew (future, entry) after) where
+    offered : after ≡ record base {
+      made = dropped (is_made_at u) (changed (is_made_at u) (give_number n) (new_made (block u class true) ∷ base.made));
+      runs = runs_past placement.asked (changed (is_run_at w) ask (changed (is_run_at w) (with_words x.frame.items) base.runs));
+      futures = u ∷ base.futures;
+      drawn = dropped (is_drawn n) (drawn_for n u (OfTask x.task) ∷ base.drawn);
+      no_task = dropped (is_at n) (n ∷ base.no_task);
+      no_after = dropped (is_at n) (n ∷ base.no_after);
+      calls = (n, placement.call) ∷ base.calls;
+      wins = place (superblock_of g.plan u) class ∷ base.wins;
+      may_draw = 0;
+      looks = v.looks;
+      known = after.known;
+      sights = after.sights;
+      facts = after.facts;
+      tries = after.tries;
+      seen = after.seen;
+    }
+    offered = offers.view_is ∙ (λ k. record (drew_for_run u w x.task placement.call n (making.view_is k)) {
+      made = dropped (is_made_at u) (changed (is_made_at u) (give_number n) (making.view_is k).made);
+      runs = runs_past placement.asked (changed (is_run_at w) ask (making.view_is k).runs);
+      futures = u ∷ (making.view_is k).futures;
+      drawn = dropped (is_drawn n) (drawn_for n u (OfTask x.task) ∷ (making.view_is k).drawn);
+      no_task = dropped (is_at n) (n ∷ (making.view_is k).no_task);
+      no_after = dropped (is_at n) (n ∷ (making.view_is k).no_after);
+      known = after.known;
+      facts = after.facts;
+      sights = after.sights;
+      tries = after.tries;
+      seen = after.seen;
+    })
+
+    made_is : dropped (is_made_at u) (changed (is_made_at u) (give_number n) (new_made (block u class true) ∷ base.made)) ≡ base.made
+    made_is = dropped-changed (is_made_at u) (give_number n) (λ y. refl) (new_made (block u class true) ∷ base.made) ∙ first-dropped u class base.made
+
+    runs_are : runs_past placement.asked (changed (is_run_at w) ask (changed (is_run_at w) (with_words x.frame.items) base.runs)) ≡ changed (is_run_at w) (with_words past) base.runs
+    runs_are = ap (λ (a : PlacedFor). runs_past a (changed (is_run_at w) ask (changed (is_run_at w) (with_words x.frame.items) base.runs))) (placed_for g x made new behind request placement v m found n)
+        ∙ runs-past w x.frame.items past base.runs
+
+    drawn_is : dropped (is_drawn n) (drawn_for n u (OfTask x.task) ∷ base.drawn) ≡ base.drawn
+    drawn_is = ap (λ (b : Bool). cond b base.drawn (drawn_for n u (OfTask x.task) ∷ dropped (is_drawn n) base.drawn)) (eq-eqb n n refl)
+
+    -- the view, by the unit of the record
+    by-unit : after ≡ record base {
+      futures = u ∷ base.futures;
+      runs = changed (is_run_at w) (with_words past) base.runs;
+      calls = (n, call) ∷ base.calls;
+      wins = place (superblock_of g.plan u) class ∷ base.wins;
+      may_draw = 0;
+      looks = after.looks;
+      known = after.known;
+      sights = after.sights;
+      facts = after.facts;
+      tries = after.tries;
+      seen = after.seen;
+    }
+    by-unit = offered ∙ (λ k. record base {
+      made = made_is k;
+      runs = runs_are k;
+      futures = u ∷ base.futures;
+      drawn = drawn_is k;
+      no_task = number-dropped n base.no_task k;
+      no_after = number-dropped n base.no_after k;
+      calls = (n, placed_call g x made new behind request placement v m found n k) ∷ base.calls;
+      wins = place (superblock_of g.plan u) class ∷ base.wins;
+      may_draw = 0;
+      looks = (sym offered k).looks;
+      known = after.known;
+      sights = after.sights;
+      facts = after.facts;
+      tries = after.tries;
+      seen = after.seen;
+    })
+
+    -- what was seen of what the frame names is seen still
+    still : (unit : ℕ) → Has unit (named_in g.checked x.frame.items) → (t : ℕ) → Has (SawTask unit t) v.sights → Has (SawTask unit t) after.sights
+    still unit has t seen = offers.kept (SawTask unit t) seen
+        (omega (arith, named-futures g x base may.may.in_step unit has, ap (λ (y : View). times unit y.futures) by-unit))
+
+    futures_seen : WereSeenAs after (map future_of new.passed) (map (task_passed v.sights) new.passed)
+    futures_seen = let were = were-seen new.passed v m.seen in record {
+      length_is = were.length_is;
+      each = λ k unit task at_unit at_task. by k unit task at_unit (were.each k unit task at_unit at_task);
+    }
+      where
+        by : (k : ℕ) (unit task : Option ℕ) → At (map future_of new.passed) k unit → WasSeenAs v unit task → WasSeenAs after unit task
+        by k (Some y) (Some t) at seen = still y (passed-named g.checked request (body_of g.checked x.frame.items) new.passed may.may.passes may.asked.passes k y at) t seen
+        by k (Some y) None at seen = absurd seen
+        by k None (Some t) at seen = absurd seen
+        by k None None at seen = tt
+
+    behind_seen : WasSeenAs after (named_if g.checked x.frame.items request.behind) (task_behind behind)
+    behind_seen = subst (λ (o : Option ℕ). WasSeenAs after o (task_behind behind)) m.behind_is (by behind m.behind_is m.behind_seen)
+      where
+        by : (o : Option Behind) → unit_behind o ≡ named_if g.checked x.frame.items request.behind → IfSome o (λ b. task_seen b.unit v.sights ≡ Some b.task) → WasSeenAs after (unit_behind o) (task_behind o)
+        by None is seen = tt
+        by (Some b) is seen = still b.unit (named-there g.checked x.frame.items request.behind b.unit (sym is)) b.task (seen-has b.unit b.task v.sights seen)
+
+    abbrev drew_steps : List (Addr × ℕ)
+    drew_steps = (sum 0, found) ∷ making.seen.0
+
+    pub has-spawned : (1 ≤ n) × (n ≤ g.plan.limit) → HasSpawned g x request base future entry after
+    has-spawned within = record {
+      number = n;
+      within = within;
+      given = new.passed;
+      passes = may.asked.passes;
+      call = record { kind = new.kind; numbers = map number_of new.passed; futures = map (task_passed v.sights) new.passed };
+      kind_is = may.asked.kind_is;
+      numbers_are = refl;
+      futures_are = futures_seen;
+      waits = task_behind behind;
+      waits_for = behind_seen;
+      behind = behind;
+      behind_is = m.behind_is;
+      steps = offers.steps ++ drew_steps;
+      since = offers.since ∙ ap (λ (l : List (Addr × ℕ)). offers.steps ++ (sum 0, found) ∷ l) making.seen.1 ∙ sym (append_assoc offers.steps drew_steps base.seen);
+      enters = subst (λ (y : ℕ). Enters y n behind entry (offers.steps ++ drew_steps)) (sym offers.future_is) (enters-more u n behind entry offers.steps drew_steps offers.enters);
+      sees = subst (λ (y : ℕ). Has (SawTask y n) after.sights) (sym offers.future_is) offers.sees;
+      facts = (
+        offers.facts.0 ++ (IsAccepted n placement.call ∷ making.facts.0),
+        offers.facts.1 ∙ ap (λ l. offers.facts.0 ++ IsAccepted n placement.call ∷ l) making.facts.1 ∙ sym (append_assoc offers.facts.0 (IsAccepted n placement.call ∷ making.facts.0) base.facts),
+      );
+      view_is = by-unit ∙ (λ k. record base {
+        futures = sym offers.future_is k ∷ base.futures;
+        runs = changed (is_run_at w) (with_words (past_words g.checked x.frame.items request.to (sym offers.future_is k))) base.runs;
+        calls = (n, call) ∷ base.calls;
+        wins = place (superblock_of g.plan (sym offers.future_is k)) class ∷ base.wins;
+        may_draw = 0;
+        looks = after.looks;
+        known = after.known;
+        sights = after.sights;
+        facts = after.facts;
+        tries = after.tries;
+        seen = after.seen;
+      });
+    }
+
+    pub spawned-in-step : IsInStep g x after
+    spawned-in-step = in-step-moved g x past base after may.may.in_step (ap (λ (y : View). y.runs) by-unit) (λ y. omega (arith, ap (λ (z : View). times y z.futures) by-unit))
+        (subst (λ (b : BodyOf ℕ). IsSameKind b (body_of g.checked x.frame.items)) (sym past_body) (past-kind (body_of g.checked x.frame.items) request.to (Some u)))
+      where
+        past_body : body_of g.checked past ≡ with_future request.to (Some u) (passed_on (body_of g.checked x.frame.items))
+        past_body = (past-frame g.checked x.frame.items request.to u may.asked.formed may.may.in_step.frame (passes-on g.checked g.columns request (body_of g.checked x.frame.items) may.may.asks) may.may.variable).1
+
+-- behind the offer the task is spawned, and its spawner goes on
+pub spawns-new : (g : Setup) (x : Running) (made it : Made) (new : NewTask) (behind : Option Behind) (request : SpawnRequest) (placement : Placement) (n : ℕ) (v w after : View) (told : Future × Option Entry)
+    → MayPlaceTask g x made new behind request placement v → it ≡ made → DrewNumber g.plan.limit n v w (drew_for_run made.unit x.started.unit x.task placement.call n v) → Offers g it n behind placement w told after
+    → (base : View) → MaySpawnTask g x new request base → IsMaking g x (kind_class g.checked request.kind) base made v → HasSpawned g x request base told.0 told.1 after × IsInStep g x after
+spawns-new g x made it new behind request placement n v w after told m is d offers base may making =
+    (has-spawned g x made new behind request placement v m d.found n base may making told.0 told.1 after there d.is_new.within, spawned-in-step g x made new behind request placement v m d.found n base may making told.0 told.1 after there)
+  where
+    there : Offers g made n behind placement (drew_view g x made new behind request placement v m d.found n) told after
+    there = subst (λ (y : View). Offers g made n behind placement y told after) d.view_is (subst (λ (y : Made). Offers g y n behind placement w told after) is offers)

@@ -1,0 +1,8 @@
+use Rattle.std.proofs.Common.{drop}
+use Rattle.std.specs.List.{filter_map}
+use Rattle.frame_code.specs.Words.{unit_named}
+use Rattle.schedule_core.proofs.EachFacts.{IsDroppingEach}
+use Rattle.schedule_core.proofs.references.drop_named.Given as goal
+
+abbrev pub invariant-words : goal.invariant-words
+invariant-words l = IsDroppingEach l.shared.setup (filter_map unit_named l.words) (filter_map unit_named (drop l.word-index l.words)) l.fn.pass l.pass

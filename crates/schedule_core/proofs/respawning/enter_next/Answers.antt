@@ -1,0 +1,101 @@
+use Rattle.std.proofs.Common.{◌∙◌, ℕ, Some, None, List, length, sym, ap, subst, arith}
+use Rattle.std.specs.Prelude.{slice_index}
+use Rattle.task_syntax.specs.declared.program.Program.{Program}
+use Rattle.frame_code.specs.Frames.{IsFrame}
+use Rattle.frame_code.specs.Units.{named_in, GivesUp, IsEnteredHeld}
+use Rattle.frame_code.specs.Ways.{BodyHasWay}
+use Rattle.frame_code.specs.Words.{body_at, body_of}
+use Rattle.table_core.specs.declared.view.View.{View}
+use Rattle.step_table.specs.Passes.{view}
+use Rattle.schedule_core.specs.References.{MayDropEach, DropsEach}
+use Rattle.schedule_core.specs.Respawning.{unit_next, HasRespawned}
+use Rattle.schedule_core.proofs.RespawnFacts.{parts-are, next-entered, may-place, may-give, left-long, gone-on}
+use Rattle.schedule_core.proofs.respawning.enter_next.Goals as goal
+
+pub place_again-entry-requires-clause-may : goal.place_again-entry-requires-clause-may
+place_again-entry-requires-clause-may c =
+    let g = c.args.shared.now.setup in let x = c.args.running in let p = g.checked in let items = x.frame.items in let n = c.args.number in let request = c.args.request.now in
+    let wanted = unit_next (body_of p items) request.behind in let v = view c.args.pass.now in let next = c.enter_held.new.frame.items in let given = c.enter_held.new.given_up in
+    let frame = subst (λ (q : Program). IsFrame q next) c.requires.code c.enter_held.ensures.frame in
+    let moved = subst (λ (q : Program). IsEnteredHeld q request.target items next) c.requires.code c.enter_held.ensures.moved in
+    let way = subst (λ (q : Program). BodyHasWay q (body_of q next)) c.requires.code c.enter_held.ensures.way in
+    let parts = parts-are given (named_in p next) (named_in p items) (subst (λ (q : Program). GivesUp q items given next) c.requires.code c.enter_held.ensures.parts) in
+    let in_step = c.requires.may.may.in_step in
+    let is_next = next-entered p request.target (body_at p (slice_index in_step.run.words)) (body_of p items) (body_of p next) in_step.same moved way in
+    may-place g x wanted n c.args.behind c.requires.may.base v in_step c.requires.may.has next given frame is_next parts
+
+pub drop_units-requires-clause-may : goal.drop_units-requires-clause-may
+drop_units-requires-clause-may c =
+    let g = c.args.shared.now.setup in let x = c.args.running in let p = g.checked in let items = x.frame.items in let n = c.args.number in let request = c.args.request.now in
+    let wanted = unit_next (body_of p items) request.behind in let v = view c.args.pass.now in let next = c.enter_held.new.frame.items in let given = c.enter_held.new.given_up in
+    let frame = subst (λ (q : Program). IsFrame q next) c.requires.code c.enter_held.ensures.frame in
+    let moved = subst (λ (q : Program). IsEnteredHeld q request.target items next) c.requires.code c.enter_held.ensures.moved in
+    let way = subst (λ (q : Program). BodyHasWay q (body_of q next)) c.requires.code c.enter_held.ensures.way in
+    let parts = parts-are given (named_in p next) (named_in p items) (subst (λ (q : Program). GivesUp q items given next) c.requires.code c.enter_held.ensures.parts) in
+    let in_step = c.requires.may.may.in_step in
+    let is_next = next-entered p request.target (body_at p (slice_index in_step.run.words)) (body_of p items) (body_of p next) in_step.same moved way in
+    let z = view c.place_again-entry.new.pass in
+    subst (λ (us : List ℕ). MayDropEach g us z) (sym c.as_slice.ensures)
+    (may-give g x wanted n c.args.behind c.requires.may.base v in_step c.requires.may.has next given frame is_next parts request.priority c.place_again-entry.result z c.place_again-entry.ensures.placed)
+
+pub overflow_sub-held : goal.overflow_sub-held
+overflow_sub-held c =
+    let g = c.args.shared.now.setup in let x = c.args.running in let p = g.checked in let items = x.frame.items in let n = c.args.number in let request = c.args.request.now in
+    let wanted = unit_next (body_of p items) request.behind in let v = view c.args.pass.now in let next = c.enter_held.new.frame.items in let given = c.enter_held.new.given_up in
+    let frame = subst (λ (q : Program). IsFrame q next) c.requires.code c.enter_held.ensures.frame in
+    let moved = subst (λ (q : Program). IsEnteredHeld q request.target items next) c.requires.code c.enter_held.ensures.moved in
+    let way = subst (λ (q : Program). BodyHasWay q (body_of q next)) c.requires.code c.enter_held.ensures.way in
+    let parts = parts-are given (named_in p next) (named_in p items) (subst (λ (q : Program). GivesUp q items given next) c.requires.code c.enter_held.ensures.parts) in
+    let in_step = c.requires.may.may.in_step in
+    let is_next = next-entered p request.target (body_at p (slice_index in_step.run.words)) (body_of p items) (body_of p next) in_step.same moved way in
+    let z = view c.place_again-entry.new.pass in let told = c.place_again-entry.result in let e = view c.drop_units.new.pass in
+    let drops = subst (λ (us : List ℕ). DropsEach us z e) c.as_slice.ensures c.drop_units.ensures.dropped in
+    let long = left-long g x wanted n c.args.behind c.requires.may.base v in_step c.requires.may.has next given frame is_next parts request.priority told z c.place_again-entry.ensures.placed e drops in
+    let count = c.count_named-named.ensures ∙ ap length c.naming_words.ensures ∙ ap (λ (q : Program). length (named_in q items)) c.requires.code in
+    omega (arith, long, count, c.args.pass.now.counts, c.held-held.ensures)
+
+pub keep_count-requires : goal.keep_count-requires
+keep_count-requires c =
+    let g = c.args.shared.now.setup in let x = c.args.running in let p = g.checked in let items = x.frame.items in let n = c.args.number in let request = c.args.request.now in
+    let wanted = unit_next (body_of p items) request.behind in let v = view c.args.pass.now in let next = c.enter_held.new.frame.items in let given = c.enter_held.new.given_up in
+    let frame = subst (λ (q : Program). IsFrame q next) c.requires.code c.enter_held.ensures.frame in
+    let moved = subst (λ (q : Program). IsEnteredHeld q request.target items next) c.requires.code c.enter_held.ensures.moved in
+    let way = subst (λ (q : Program). BodyHasWay q (body_of q next)) c.requires.code c.enter_held.ensures.way in
+    let parts = parts-are given (named_in p next) (named_in p items) (subst (λ (q : Program). GivesUp q items given next) c.requires.code c.enter_held.ensures.parts) in
+    let in_step = c.requires.may.may.in_step in
+    let is_next = next-entered p request.target (body_at p (slice_index in_step.run.words)) (body_of p items) (body_of p next) in_step.same moved way in
+    let z = view c.place_again-entry.new.pass in let told = c.place_again-entry.result in let e = view c.drop_units.new.pass in
+    let drops = subst (λ (us : List ℕ). DropsEach us z e) c.as_slice.ensures c.drop_units.ensures.dropped in
+    let long = left-long g x wanted n c.args.behind c.requires.may.base v in_step c.requires.may.has next given frame is_next parts request.priority told z c.place_again-entry.ensures.placed e drops in
+    let count = c.count_named-named.ensures ∙ ap length c.naming_words.ensures ∙ ap (λ (q : Program). length (named_in q items)) c.requires.code in
+    omega (arith, long, count, c.args.pass.now.counts, c.held-held.ensures)
+
+pub returns-in-None-clause-entered : goal.returns-in-None-clause-entered
+returns-in-None-clause-entered c = λ base may has.
+    let g = c.args.shared.now.setup in let x = c.args.running in let p = g.checked in let items = x.frame.items in let n = c.args.number in let request = c.args.request.now in
+    let wanted = unit_next (body_of p items) request.behind in let v = view c.args.pass.now in let next = c.enter_held.new.frame.items in let given = c.enter_held.new.given_up in
+    let frame = subst (λ (q : Program). IsFrame q next) c.requires.code c.enter_held.ensures.frame in
+    let moved = subst (λ (q : Program). IsEnteredHeld q request.target items next) c.requires.code c.enter_held.ensures.moved in
+    let way = subst (λ (q : Program). BodyHasWay q (body_of q next)) c.requires.code c.enter_held.ensures.way in
+    let parts = parts-are given (named_in p next) (named_in p items) (subst (λ (q : Program). GivesUp q items given next) c.requires.code c.enter_held.ensures.parts) in
+    let is_next = next-entered p request.target (body_at p (slice_index may.in_step.run.words)) (body_of p items) (body_of p next) may.in_step.same moved way in
+    let z = view c.place_again-entry.new.pass in let told = c.place_again-entry.result in let e = view c.drop_units.new.pass in
+    let drops = subst (λ (us : List ℕ). DropsEach us z e) c.as_slice.ensures c.drop_units.ensures.dropped in
+    subst (λ (w : View). HasRespawned g x wanted request.priority base None w) (sym c.keep_count.ensures.view)
+    (subst (λ o. HasRespawned g x wanted request.priority base o e) c.in-None.is
+    (gone-on g x wanted n c.args.behind base v may.in_step has next given frame is_next parts request.priority told z c.place_again-entry.ensures.placed e drops))
+
+pub returns-in-Some-clause-entered : goal.returns-in-Some-clause-entered
+returns-in-Some-clause-entered c = λ base may has.
+    let g = c.args.shared.now.setup in let x = c.args.running in let p = g.checked in let items = x.frame.items in let n = c.args.number in let request = c.args.request.now in
+    let wanted = unit_next (body_of p items) request.behind in let v = view c.args.pass.now in let next = c.enter_held.new.frame.items in let given = c.enter_held.new.given_up in
+    let frame = subst (λ (q : Program). IsFrame q next) c.requires.code c.enter_held.ensures.frame in
+    let moved = subst (λ (q : Program). IsEnteredHeld q request.target items next) c.requires.code c.enter_held.ensures.moved in
+    let way = subst (λ (q : Program). BodyHasWay q (body_of q next)) c.requires.code c.enter_held.ensures.way in
+    let parts = parts-are given (named_in p next) (named_in p items) (subst (λ (q : Program). GivesUp q items given next) c.requires.code c.enter_held.ensures.parts) in
+    let is_next = next-entered p request.target (body_at p (slice_index may.in_step.run.words)) (body_of p items) (body_of p next) may.in_step.same moved way in
+    let z = view c.place_again-entry.new.pass in let told = c.place_again-entry.result in let e = view c.drop_units.new.pass in
+    let drops = subst (λ (us : List ℕ). DropsEach us z e) c.as_slice.ensures c.drop_units.ensures.dropped in
+    subst (λ (w : View). HasRespawned g x wanted request.priority base (Some c.in-Some.entry) w) (sym c.keep_count.ensures.view)
+    (subst (λ o. HasRespawned g x wanted request.priority base o e) c.in-Some.is
+    (gone-on g x wanted n c.args.behind base v may.in_step has next given frame is_next parts request.priority told z c.place_again-entry.ensures.placed e drops))
