@@ -5,7 +5,9 @@
 #![tactic(auto)]
 
 mod arcs;
+mod filling;
 mod picks;
+mod program;
 mod records;
 
 use kt_words::Geometry;
@@ -39,7 +41,12 @@ fn main(rt: HostRuntime) -> io::Result<()> {
         return Ok(());
     }
     let spent = match what {
-        0 => records::measure(&rt, geometry, records, *rounds)?,
+        0 => {
+            let Some(spent) = records::measure(&rt, geometry, records, *rounds)? else {
+                return Ok(());
+            };
+            spent
+        }
         1 => arcs::measure(&rt, records, *rounds)?,
         _ => picks::measure(&rt, records, *rounds)?,
     };

@@ -1,46 +1,30 @@
 //! References to the records of a table.
-ghost use Rattle.std.specs.Prelude.{◌≡◌, ◌≤◌, ◌<◌, ◌^◌, IfOk, All, length};
-ghost use Rattle.kt_words.specs.Capacity.{capacity};
-ghost use Rattle.step_table.specs.Passes.{view, plan, IsOf};
+ghost use Rattle.std.specs.Prelude.{◌≡◌, ◌≤◌, ◌<◌, ◌^◌, []};
+ghost use Rattle.step_table.specs.Passes.{view, plan, IsOf, IsSame};
 ghost use Rattle.step_table.specs.RecordHands.{HasFuture};
 ghost use Rattle.reference_bench.specs.Hands.{HasEach};
 
+use crate::filling::filled;
 use crate::picks::picks;
 use future_refs::{clone_future, drop_future};
-use kt_words::{Geometry, Phase, Plan};
-use std::alloc::{AllocError, Global};
+use kt_words::Geometry;
 use std::io;
 use std::rt::Clock;
+use std::sync::Wait;
 use std::time::{Duration, Instant};
 use step_table::{Future, Pass, Shared};
-use task_syntax::{Checked, Columns, List, Program};
 
-// A table for a program without kinds and roots, with so many records that are done.
-fn table(alloc: Global, geometry: Geometry, records: u32) -> Result<(Shared, Pass), AllocError>
-    requires { records ≤ capacity geometry.units 0 }
-    ensures table { IfOk result (λ made. IsOf made.0 made.1) }
-    ensures hand { IfOk result (λ made. HasEach (plan made.0) records (view made.1)) }
-{
-    let Some(plan) = Plan::new(geometry, 1, 0) else {
-        unreachable!()
-    };
-    let program = Program {
-        kinds: List::new(alloc),
-        roots: List::new(alloc),
-    };
-    let phases = Vec::from_elem(alloc, Phase::Complete, records as usize)?;
-    let checked = Checked::seal(program);
-    let columns = Columns::none(alloc);
-    let (shared, pass) = Shared::opened(alloc, checked, columns, plan, phases.as_slice())?;
-    Ok((shared, pass))
-}
+// A pass with more references takes no turn.
+const MANY: u64 = 1_000_000;
 
 // One more reference to the record at the unit, and one less.
 fn take_turn(shared: &Shared, pass: &mut Pass, unit: u32)
     requires table { IsOf shared.now pass.old }
+    requires idle { (view pass.old).runs ≡ [] }
     requires hand { HasFuture (plan shared.now) unit (view pass.old) }
-    requires room { length (view pass.old).futures ≤ 512 }
-    ensures table { IsOf shared.now pass.new }
+    requires room { pass.old.held < 2 ^ 32 }
+    ensures pass { IsSame pass.old pass.new }
+    ensures idle { (view pass.new).runs ≡ [] }
     ensures hand { (view pass.new).futures ≡ (view pass.old).futures }
 {
     let future = Future::of(pass, unit);
@@ -48,33 +32,42 @@ fn take_turn(shared: &Shared, pass: &mut Pass, unit: u32)
     drop_future(shared, pass, clone);
 }
 
-fn take_turns(shared: &Shared, pass: &mut Pass, picks: &[u32])
+// A turn with each of the records that are picked.
+fn take_turns(shared: &Shared, pass: &mut Pass, units: &[u32], picks: &[u32])
     requires table { IsOf shared.now pass.old }
-    requires hand { All (λ unit. HasFuture (plan shared.now) unit (view pass.old)) picks.now }
-    requires room { length (view pass.old).futures ≤ 512 }
-    ensures table { IsOf shared.now pass.new }
+    requires idle { (view pass.old).runs ≡ [] }
+    requires hand { HasEach (plan shared.now) units.now (view pass.old) }
+    requires room { pass.old.held < 2 ^ 32 }
+    ensures pass { IsSame pass.old pass.new }
+    ensures idle { (view pass.new).runs ≡ [] }
     ensures hand { (view pass.new).futures ≡ (view pass.old).futures }
 {
-    for unit in picks {
-        take_turn(shared, pass, *unit);
+    for pick in picks {
+        if let Some(unit) = units.get(*pick as usize) {
+            take_turn(shared, pass, *unit);
+        }
     }
 }
 
-pub fn measure<R: Clock + AllocGlobal>(
+pub fn measure<R: Clock + AllocGlobal + Wait>(
     rt: &R,
     geometry: Geometry,
     records: u32,
     rounds: u32,
-) -> io::Result<Duration>
-    requires some { 0 < records }
-    requires few { records ≤ capacity geometry.units 0 }
+) -> io::Result<Option<Duration>>
+    requires { 0 < records }
 {
     let picks = picks(rt.alloc(), records)?;
-    let (shared, pass) = table(rt.alloc(), geometry, records)?;
+    let Some((shared, pass, units)) = filled(rt.alloc(), rt, geometry, records)? else {
+        return Ok(None);
+    };
     let mut pass = pass;
+    if pass.held() > MANY {
+        return Ok(None);
+    }
     let start = Instant::now(rt)?;
     for _round in 0..rounds {
-        take_turns(&shared, &mut pass, picks.as_slice());
+        take_turns(&shared, &mut pass, units.as_slice(), picks.as_slice());
     }
-    start.elapsed(rt)
+    Ok(Some(start.elapsed(rt)?))
 }

@@ -1,4 +1,5 @@
 mod HandFacts
-mod DropFacts
-mod FirstHands
+mod MakingFacts
+mod Covering
+mod RootFacts
 mod RecordFacts

@@ -1,18 +1,20 @@
 //! A count of references that is kept by hand, and steps that keep it.
-ghost use Rattle.std.specs.Prelude.{◌≡◌, ◌<◌, ◌≤◌, true, Some, slice_get, slice_index};
+ghost use Rattle.std.specs.Prelude.{◌≡◌, ◌<◌};
 ghost use Rattle.step_table.specs.Passes.{view, IsOf};
-ghost use Rattle.reference_rows.specs.Hands.{IsHand, counted_up, counted_down};
+ghost use Rattle.reference_rows.specs.Hands.{IsHand};
 
 use future_refs::{clone_future, drop_future};
 use kt_words::Phase;
+use std::mem::replace;
 use std::process::Abort;
-use step_table::{Future, OwnWord, Pass, Shared};
+use step_table::{Finishing, Future, OwnWord, Pass, Shared};
 
-/// How many references a pass has to each of eight records, and to which it has the scheduler's own.
+/// How many references a pass has to each of eight records, and the scheduler's own to those of
+/// which it has it.
 #[derive(Drop)]
 pub struct Hand {
     pub futures: [u64; 8],
-    pub own: [bool; 8],
+    pub own: [Option<Finishing>; 8],
 }
 
 impl Hand {
@@ -20,7 +22,7 @@ impl Hand {
     pub fn is_referred(&self, unit: u32) -> bool
         requires { unit < 8 }
     {
-        self.futures[unit as usize] > 0 || self.own[unit as usize]
+        self.futures[unit as usize] > 0 || self.own[unit as usize].is_some()
     }
 }
 
@@ -29,47 +31,43 @@ pub fn clone_one(rt: &impl Abort, shared: &Shared, pass: &mut Pass, hand: &mut H
     requires table { IsOf shared.now pass.old }
     requires hand { IsHand hand.old.futures hand.old.own (view pass.old) }
     requires unit { unit < 8 }
-    requires some { 1 ≤ slice_index hand.old.futures unit }
     ensures table { IsOf shared.now pass.new }
     ensures hand { IsHand hand.new.futures hand.new.own (view pass.new) }
-    ensures count { hand.new.futures ≡ counted_up hand.old.futures unit }
-    ensures own { hand.new.own ≡ hand.old.own }
 {
     let references = hand.futures[unit as usize];
-    assert!(rt; references < 1_000_000 && pass.held() < 1_000_000);
+    assert!(rt; 0 < references && references < 1_000_000 && pass.held() < 1_000_000);
     let future = Future::of(pass, unit);
     let _new = clone_future(shared, pass, &future);
     hand.futures[unit as usize] = references + 1;
 }
 
 /// Drops one reference to the record at the unit.
-pub fn drop_one(shared: &Shared, pass: &mut Pass, hand: &mut Hand, unit: u32)
+pub fn drop_one(rt: &impl Abort, shared: &Shared, pass: &mut Pass, hand: &mut Hand, unit: u32)
     requires table { IsOf shared.now pass.old }
     requires hand { IsHand hand.old.futures hand.old.own (view pass.old) }
     requires unit { unit < 8 }
-    requires some { 1 ≤ slice_index hand.old.futures unit }
     ensures table { IsOf shared.now pass.new }
     ensures hand { IsHand hand.new.futures hand.new.own (view pass.new) }
-    ensures count { hand.new.futures ≡ counted_down hand.old.futures unit }
-    ensures own { hand.new.own ≡ hand.old.own }
 {
+    let references = hand.futures[unit as usize];
+    assert!(rt; 0 < references);
     let future = Future::of(pass, unit);
     drop_future(shared, pass, future);
-    hand.futures[unit as usize] = hand.futures[unit as usize] - 1;
+    hand.futures[unit as usize] = references - 1;
 }
 
-/// Gives up the scheduler's own reference to the record at the unit. True: it was the last, and the
-/// record's block is given back.
+/// Gives up the scheduler's own reference to the record at the unit, where the hand has it. True:
+/// it was the last, and the record's block is given back.
 pub fn give_up_one(shared: &Shared, pass: &mut Pass, hand: &mut Hand, unit: u32) -> bool
     requires table { IsOf shared.now pass.old }
     requires hand { IsHand hand.old.futures hand.old.own (view pass.old) }
-    requires own { slice_get hand.old.own unit ≡ Some true }
+    requires unit { unit < 8 }
     ensures table { IsOf shared.now pass.new }
     ensures hand { IsHand hand.new.futures hand.new.own (view pass.new) }
-    ensures count { hand.new.futures ≡ hand.old.futures }
 {
-    let finishing = pass.opened_done(unit);
-    hand.own[unit as usize] = false;
+    let Some(finishing) = replace(&mut hand.own[unit as usize], None) else {
+        return false;
+    };
     match shared.give_up(pass, finishing) {
         None => false,
         Some(retiring) => {
@@ -96,8 +94,8 @@ fn check_one(rt: &impl Abort, shared: &Shared, pass: &mut Pass, hand: &Hand, uni
         Phase::Free
     };
     assert_eq!(rt; state.phase, phase, "the state of {unit}");
-    if hand.own[unit as usize] {
-        let references = shared.read_own(pass, unit, OwnWord::References);
+    if let Some(finishing) = &hand.own[unit as usize] {
+        let references = shared.read_own(pass, finishing.unit(), OwnWord::References);
         let futures = hand.futures[unit as usize];
         assert_eq!(rt;
             references.checked_sub(futures),

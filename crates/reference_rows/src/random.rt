@@ -3,13 +3,14 @@ ghost use Rattle.std.specs.Prelude.{◌≡◌, ◌<◌};
 ghost use Rattle.step_table.specs.Passes.{view, IsOf};
 ghost use Rattle.reference_rows.specs.Hands.{IsHand};
 
+use crate::filling::filled;
 use crate::hand::{Hand, check, clone_one, drop_one, give_up_one};
-use crate::tables::table;
 use kt_words::Phase;
 use rand_core::Rng;
 use rand_pcg::Pcg32;
 use std::alloc::Global;
 use std::process::Abort;
+use std::sync::Wait;
 use std::test::Fail;
 use step_table::{Pass, Shared};
 
@@ -33,9 +34,7 @@ fn turn(
     let unit = word % 8;
     let choice = word / 8 % 256;
     if choice == 255 {
-        if hand.own[unit as usize] {
-            let _last = give_up_one(shared, pass, hand, unit);
-        }
+        let _last = give_up_one(shared, pass, hand, unit);
         return false;
     }
     if hand.futures[unit as usize] == 0 {
@@ -44,30 +43,33 @@ fn turn(
     if choice < clones {
         clone_one(rt, shared, pass, hand, unit);
     } else {
-        drop_one(shared, pass, hand, unit);
+        drop_one(rt, shared, pass, hand, unit);
     }
     true
 }
 
 // Drops what is left of the record at the unit, and gives its own reference up before or after.
-fn drain(shared: &Shared, pass: &mut Pass, hand: &mut Hand, unit: u32, own_first: bool)
+fn drain(
+    rt: &impl Abort,
+    shared: &Shared,
+    pass: &mut Pass,
+    hand: &mut Hand,
+    unit: u32,
+    own_first: bool,
+)
     requires table { IsOf shared.now pass.old }
     requires hand { IsHand hand.old.futures hand.old.own (view pass.old) }
     requires unit { unit < 8 }
     ensures table { IsOf shared.now pass.new }
     ensures hand { IsHand hand.new.futures hand.new.own (view pass.new) }
 {
-    if own_first && hand.own[unit as usize] {
+    if own_first {
         let _last = give_up_one(shared, pass, hand, unit);
     }
     for reference in 0..hand.futures[unit as usize] {
-        if hand.futures[unit as usize] > 0 {
-            drop_one(shared, pass, hand, unit);
-        }
+        drop_one(rt, shared, pass, hand, unit);
     }
-    if hand.own[unit as usize] {
-        let _last = give_up_one(shared, pass, hand, unit);
-    }
+    let _last = give_up_one(shared, pass, hand, unit);
 }
 
 // Turns in which references become more, and then fewer. The number of clones and drops.
@@ -101,7 +103,7 @@ fn drain_all(rt: &impl Abort, shared: &Shared, pass: &mut Pass, hand: &mut Hand,
     ensures table { IsOf shared.now pass.new }
 {
     for unit in 0..8 {
-        drain(shared, pass, hand, unit, own_first);
+        drain(rt, shared, pass, hand, unit, own_first);
         check(rt, shared, pass, hand);
     }
 }
@@ -117,13 +119,15 @@ fn check_free(rt: &impl Abort, shared: &Shared, pass: &mut Pass)
 }
 
 // One table with eight records. The number of clones and drops before the last ones.
-fn round(rt: &impl Abort, alloc: Global, random: &mut Pcg32, own_first: bool) -> Result<u32, Fail> {
-    let (shared, pass) = table(alloc, &[Phase::Complete; 8])?;
+fn round(
+    rt: &(impl Abort + Wait),
+    alloc: Global,
+    random: &mut Pcg32,
+    own_first: bool,
+) -> Result<u32, Fail> {
+    let (shared, pass, hand) = filled(rt, alloc, 7)?;
     let mut pass = pass;
-    let mut hand = Hand {
-        futures: [1; 8],
-        own: [true; 8],
-    };
+    let mut hand = hand;
     let made = turns(rt, &shared, &mut pass, &mut hand, random);
     drain_all(rt, &shared, &mut pass, &mut hand, own_first);
     check_free(rt, &shared, &mut pass);

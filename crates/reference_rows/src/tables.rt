@@ -1,19 +1,23 @@
-//! Tables to test on: one superblock of eight units, and records in some phases.
-ghost use Rattle.std.specs.Prelude.{◌≡◌, ◌≤◌, IfOk, IfSome, IsTrue, length};
-ghost use Rattle.std.specs.List.{list_all};
-ghost use Rattle.table_core.specs.Opened.{can_open, opened_view};
-ghost use Rattle.step_table.specs.Opening.{IsFirst};
+//! Tables to test on: one superblock of eight units.
+ghost use Rattle.std.specs.Prelude.{◌≡◌, ◌≤◌, IfOk, IfSome, length};
+ghost use Rattle.step_table.specs.Passes.{view, IsOf};
+ghost use Rattle.reference_rows.specs.Hands.{HasMaker};
 
-use kt_words::{Geometry, Phase, Plan};
+use kt_words::{Geometry, Plan};
 use std::alloc::{AllocError, Global};
+use std::sync::Wait;
 use std::test::Fail;
-use step_table::{Pass, Shared};
+use step_table::{Pass, Shared, Started};
+use table_records::open_maker;
 use task_check::{CheckError, check};
 use task_reader::{ReadError, read_program};
 use task_syntax::{Checked, Columns};
 
 // Two roots, and a kind with one state.
 const PROGRAM: &str = "ktask 1\nkind one\nstate start\ndone 1\nend\nroot p one\nroot q one\n";
+
+// More activations than a test has.
+const LIMIT: u64 = 100;
 
 // The program of a text, where it has one that is valid.
 fn program_of(alloc: Global, text: &str) -> Result<Option<Checked>, AllocError> {
@@ -38,18 +42,26 @@ fn plan_of(checked: &Checked) -> Option<Plan>
 {
     let geometry = Geometry::new(1, 8)?;
     let roots = u8::try_from(checked.program().roots.len()).ok()?;
-    Plan::new(geometry, 1, roots)
+    Plan::new(geometry, LIMIT, roots)
 }
 
-/// A table for a program with two roots, opened with at most eight records.
-pub fn table(alloc: Global, phases: &[Phase]) -> Result<(Shared, Pass), Fail>
-    requires phases { IsTrue (list_all can_open phases.now) }
-    requires few { length phases.now ≤ 8 }
-    ensures { IfOk result (λ made. IsFirst made.0 made.1 (opened_view phases.now)) }
+/// A table for a program with two roots.
+pub fn table(alloc: Global) -> Result<(Shared, Pass), Fail>
+    ensures { IfOk result (λ made. IsOf made.0 made.1) }
 {
     let checked = program_of(alloc, PROGRAM)?.ok_or("no program")?;
     let plan = plan_of(&checked).ok_or("no plan")?;
-    let columns = Columns::none(alloc);
-    let made = Shared::opened(alloc, checked, columns, plan, phases)?;
+    let (shared, pass) = Shared::new(alloc, checked, Columns::none(alloc), plan)?;
+    Ok((shared, pass))
+}
+
+/// The same table with the record of the first root, which runs and makes others.
+pub fn opened(rt: &impl Wait, alloc: Global) -> Result<(Shared, Pass, Started), Fail>
+    ensures table { IfOk result (λ made. IsOf made.0 made.1) }
+    ensures maker { IfOk result (λ made. HasMaker made.0.setup made.2 (view made.1)) }
+{
+    let checked = program_of(alloc, PROGRAM)?.ok_or("no program")?;
+    let plan = plan_of(&checked).ok_or("no plan")?;
+    let made = open_maker(alloc, rt, checked, plan)?.ok_or("no maker")?;
     Ok(made)
 }

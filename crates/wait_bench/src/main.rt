@@ -1,7 +1,7 @@
 //! `wait_bench LISTS MEMBERS ROUNDS`: how long one thread takes on wait lists. In each round a
 //! table is opened with so many records that run and so many that wait, together at most 512. The
-//! waiting ones join the lists of the running ones in turn; the first of these is finished, its
-//! list is closed, and gone through to its end. It prints four times in nanoseconds, each the least
+//! waiting ones are behind the running ones in turn, and join their lists; the first of these is
+//! finished, its list is closed, and gone through to its end. It prints four times in nanoseconds, each the least
 //! of all rounds: of the joins, the close, the way through, and of two looks at the clock with
 //! nothing between; and how many records were taken from the closed lists. With other words it
 //! prints nothing.

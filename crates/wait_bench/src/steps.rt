@@ -1,5 +1,5 @@
 //! Joins, and the way through a closed list.
-ghost use Rattle.std.specs.Prelude.{◌≡◌, ◌≤◌, ◌<◌, vec_len};
+ghost use Rattle.std.specs.Prelude.{◌≡◌, vec_len};
 ghost use Rattle.step_table.specs.Passes.{view, plan, IsOf};
 ghost use Rattle.step_table.specs.ListHands.{IsChain};
 ghost use Rattle.wait_rows.specs.Hands.{IsHand};
@@ -8,24 +8,21 @@ use std::alloc::AllocError;
 use step_table::{Chain, Pass, Shared};
 use wait_rows::{Hand, join_one, take_one};
 
-/// So many records of the hand join the first lists in turn.
+/// So many records of the hand join their lists.
 pub fn join_all(
     shared: &Shared,
     pass: &mut Pass,
     hand: &mut Hand,
-    lists: u32,
     members: u32,
 ) -> Result<(), AllocError>
     requires table { IsOf shared.now pass.old }
     requires hand { IsHand (plan shared.now) hand.old (view pass.old) }
-    requires some { 0 < lists }
-    requires lists { lists ≤ vec_len hand.old.stages }
     ensures table { IsOf shared.now pass.new }
     ensures hand { IsHand (plan shared.now) hand.new (view pass.new) }
     ensures count { vec_len hand.new.stages ≡ vec_len hand.old.stages }
 {
     for member in 0..members {
-        join_one(shared, pass, hand, member % lists)?;
+        join_one(shared, pass, hand)?;
     }
     Ok(())
 }

@@ -1,2 +1,4 @@
+pub mod FoundFacts
 pub mod HandFacts
-pub mod FirstFacts
+pub mod ListsFacts
+pub mod MakingFacts

@@ -4,91 +4,97 @@ ghost use Rattle.step_table.specs.Passes.{view, plan, IsOf};
 ghost use Rattle.step_table.specs.ListHands.{IsChain};
 ghost use Rattle.wait_rows.specs.Hands.{IsHand, IsShorter};
 
-use crate::stage::Stage;
-use kt_words::Tag;
+use crate::stage::{Owner, Stage, Waiting};
 use std::alloc::AllocError;
 use std::mem::replace;
-use step_table::{Chain, Future, Linkable, Pass, Shared};
+use step_table::{Chain, Ending, Linkable, Pass, Shared};
+use task_syntax::{Trap, Value};
 use wait_lists::{Joined, close_list, join_list, next_of};
 
-/// What a pass has of the records that it was opened with.
+/// What a pass has of the records that were made for it.
 #[derive(Drop)]
 pub struct Hand {
-    /// The records that wait, in no list.
-    pub waiting: Vec<Linkable>,
-    /// Where each record stands, by its unit.
+    /// The records that wait, in no list so far.
+    pub waiting: Vec<Waiting>,
+    /// The records that came back from a list, or were told that it is closed.
+    pub back: Vec<Linkable>,
+    /// The records with lists.
+    pub owners: Vec<Owner>,
+    /// Where each of them stands.
     pub stages: Vec<Stage>,
 }
 
-/// The last of the waiting records joins the list of the record at the unit. None: none waits in
-/// the hand. Else its unit, and whether it stands in the list.
+/// The last of the waiting records joins its list. None: none waits in the hand. Else its list,
+/// its unit, and whether it stands in the list.
 pub fn join_one(
     shared: &Shared,
     pass: &mut Pass,
     hand: &mut Hand,
-    unit: u32,
-) -> Result<Option<(u32, bool)>, AllocError>
+) -> Result<Option<(u32, u32, bool)>, AllocError>
     requires table { IsOf shared.now pass.old }
     requires hand { IsHand (plan shared.now) hand.old (view pass.old) }
-    requires unit { unit < vec_len hand.old.stages }
     ensures table { IsOf shared.now pass.new }
     ensures hand { IsHand (plan shared.now) hand.new (view pass.new) }
     ensures count { vec_len hand.new.stages ≡ vec_len hand.old.stages }
+    ensures list { IfOk result (λ o. IfSome o (λ t. t.0 < vec_len hand.new.stages)) }
     ensures chains { (view pass.new).chains ≡ (view pass.old).chains }
 {
-    let Some(waiter) = hand.waiting.pop() else {
+    let Some(next) = hand.waiting.pop() else {
         return Ok(None);
     };
-    let record = waiter.unit();
-    let future = Future::of(pass, unit);
-    match join_list(shared, pass, waiter, &future) {
-        Joined::Waits => Ok(Some((record, true))),
+    let list = next.list;
+    let waiter = next.waiter;
+    let unit = waiter.unit();
+    let owner = &hand.owners[list as usize];
+    match join_list(shared, pass, waiter, &owner.future) {
+        Joined::Waits => Ok(Some((list, unit, true))),
         Joined::Closed(back) => {
-            hand.waiting.push(back)?;
-            Ok(Some((record, false)))
+            hand.back.push(back)?;
+            Ok(Some((list, unit, false)))
         }
     }
 }
 
-/// Finishes the record at the unit, where it runs. True: it ran.
-pub fn finish_one(shared: &Shared, pass: &mut Pass, hand: &mut Hand, unit: u32) -> bool
+/// Finishes the record of the list, where it runs. True: it ran.
+pub fn finish_one(shared: &Shared, pass: &mut Pass, hand: &mut Hand, list: u32) -> bool
     requires table { IsOf shared.now pass.old }
     requires hand { IsHand (plan shared.now) hand.old (view pass.old) }
-    requires unit { unit < vec_len hand.old.stages }
+    requires list { list < vec_len hand.old.stages }
     ensures table { IsOf shared.now pass.new }
     ensures hand { IsHand (plan shared.now) hand.new (view pass.new) }
     ensures count { vec_len hand.new.stages ≡ vec_len hand.old.stages }
 {
-    match replace(&mut hand.stages[unit as usize], Stage::Other) {
+    match replace(&mut hand.stages[list as usize], Stage::Closed) {
         Stage::Running(started) => {
-            let done = shared.finish(pass, started, Tag::Number);
-            hand.stages[unit as usize] = Stage::Done(done);
+            let ending = Ending::Gave(Value::Trapped(Trap::Overflow));
+            let done = shared.finish(pass, started, ending);
+            hand.stages[list as usize] = Stage::Done(done);
             true
         }
         other => {
-            hand.stages[unit as usize] = other;
+            hand.stages[list as usize] = other;
             false
         }
     }
 }
 
-/// Closes the list of the record at the unit, where it is done and its list is open.
-pub fn close_one(shared: &Shared, pass: &mut Pass, hand: &mut Hand, unit: u32) -> Option<Chain>
+/// Closes the list, where it is open and its record is done.
+pub fn close_one(shared: &Shared, pass: &mut Pass, hand: &mut Hand, list: u32) -> Option<Chain>
     requires table { IsOf shared.now pass.old }
     requires hand { IsHand (plan shared.now) hand.old (view pass.old) }
-    requires unit { unit < vec_len hand.old.stages }
+    requires list { list < vec_len hand.old.stages }
     ensures table { IsOf shared.now pass.new }
     ensures hand { IsHand (plan shared.now) hand.new (view pass.new) }
     ensures count { vec_len hand.new.stages ≡ vec_len hand.old.stages }
     ensures chain { IfSome result (λ chain. IsChain (plan shared.now) chain (view pass.new)) }
 {
-    match replace(&mut hand.stages[unit as usize], Stage::Other) {
+    match replace(&mut hand.stages[list as usize], Stage::Closed) {
         Stage::Done(finishing) => {
             let (_closed, chain) = close_list(shared, pass, finishing);
             Some(chain)
         }
         other => {
-            hand.stages[unit as usize] = other;
+            hand.stages[list as usize] = other;
             None
         }
     }
@@ -113,9 +119,9 @@ pub fn take_one(
     match next_of(shared, pass, chain) {
         None => Ok(None),
         Some((waiter, rest)) => {
-            let record = waiter.unit();
-            hand.waiting.push(waiter)?;
-            Ok(Some((record, rest)))
+            let unit = waiter.unit();
+            hand.back.push(waiter)?;
+            Ok(Some((unit, rest)))
         }
     }
 }

@@ -1,10 +1,12 @@
-//! Records that wait on a table, kept by hand: for tests of wait lists, and to measure them. A
-//! table is opened with records in it, and a `Hand` has what its pass has of them.
+//! Records that wait on a table, kept by hand: for tests of wait lists, and to measure them. The
+//! records are made by a run of the table, and a `Hand` has what its pass has of them. A record
+//! that waits may join only the list of the record whose task it is behind.
 #![tactic(auto)]
 
 #[cfg(test)]
 mod closing;
 mod hand;
+mod making;
 mod opening;
 mod orders;
 #[cfg(test)]
@@ -12,6 +14,6 @@ mod random;
 mod stage;
 
 pub use hand::{Hand, close_one, finish_one, join_one, take_one};
-pub use opening::{open_hand, open_table, phases_of};
+pub use opening::open_hand;
 pub use orders::Orders;
-pub use stage::Stage;
+pub use stage::{Owner, Stage, Waiting};

@@ -1,105 +1,135 @@
 //! Tables with records, and the hand of their pass.
-ghost use Rattle.std.specs.Prelude.{◌≡◌, ◌≤◌, ◌<◌, ◌+◌, IfOk, IsTrue, length, vec_len};
-ghost use Rattle.std.specs.List.{list_all};
-ghost use Rattle.table_core.specs.Addresses.{units_of};
-ghost use Rattle.table_core.specs.Opened.{can_open, opened_view};
+ghost use Rattle.std.specs.Prelude.{◌≡◌, ◌+◌, IfSome, length, vec_len};
 ghost use Rattle.step_table.specs.Passes.{view, plan, IsOf};
-ghost use Rattle.step_table.specs.Opening.{IsFirst};
-ghost use Rattle.wait_rows.specs.Hands.{IsHand, IsFirstHand, OpenedAs};
+ghost use Rattle.table_records.specs.Makers.{IsMaker};
+ghost use Rattle.wait_rows.specs.Hands.{IsHand};
+ghost use Rattle.wait_rows.specs.Making.{IsOpenHand};
 
 use crate::hand::Hand;
-use crate::stage::Stage;
-use kt_words::{Geometry, Phase, Plan};
-use std::alloc::{AllocError, Global};
-use step_table::{Pass, Shared};
-use task_syntax::{Checked, Columns, List, Program};
+use crate::making::{add_list, add_waiting};
+use kt_words::{Geometry, Plan};
+use std::alloc::Global;
+use std::sync::Wait;
+use step_table::{Pass, Shared, Started};
+use table_records::open_maker;
+use task_check::check;
+use task_reader::read_program;
+use task_syntax::Checked;
 
-// The plan of a run without roots, over one superblock of 512 units.
-fn plan_of() -> Plan
-    ensures roots { result.roots ≡ 0 }
-    ensures units { result.geometry.units ≡ 512 }
-    ensures superblocks { result.geometry.superblocks ≡ 1 }
-{
-    let geometry = Geometry::new(1, 512).unwrap();
-    Plan::new(geometry, 1, 0).unwrap()
+// A root of a kind with one state.
+const PROGRAM: &str = "ktask 1\nkind one\nstate start\ndone 1\nend\nroot p one\n";
+
+// More activations than a table has records.
+const LIMIT: u64 = 2000;
+
+// The program of a text, where it has one that is valid.
+fn program_of(alloc: Global, text: &str) -> Option<Checked> {
+    if text.len() > 10_000 {
+        return None;
+    }
+    let program = read_program(alloc, text.as_bytes()).ok()?;
+    check(alloc, program).ok()
 }
 
-/// So many records that run, and behind them so many that wait.
-pub fn phases_of(alloc: Global, running: u32, waiting: u32) -> Result<Vec<Phase>, AllocError>
-    requires few { running + waiting ≤ 512 }
-    ensures phases { IfOk result (λ v. IsTrue (list_all can_open v.items)) }
-    ensures count { IfOk result (λ v. vec_len v ≡ running + waiting) }
+// The plan of a program's run, over two superblocks of 512 units.
+fn plan_of(checked: &Checked) -> Option<Plan>
+    ensures { IfSome result (λ plan. plan.roots ≡ length checked.now.roots) }
 {
-    let mut phases = Vec::from_elem(alloc, Phase::Running, running as usize)?;
-    phases.resize((running + waiting) as usize, Phase::Waiting)?;
-    Ok(phases)
+    let geometry = Geometry::new(2, 512)?;
+    let roots = u8::try_from(checked.program().roots.len()).ok()?;
+    Plan::new(geometry, LIMIT, roots)
 }
 
-/// A table for a program without kinds and roots, with records of class 0 in these phases, at
-/// most 512.
-pub fn open_table(alloc: Global, phases: &[Phase]) -> Result<(Shared, Pass), AllocError>
-    requires phases { IsTrue (list_all can_open phases.now) }
-    requires few { length phases.now ≤ 512 }
-    ensures pass { IfOk result (λ made. IsFirst made.0 made.1 (opened_view phases.now)) }
-    ensures units { IfOk result (λ made. units_of (plan made.0) ≡ 512) }
+// A table with a record that makes others.
+fn open_table(alloc: Global, rt: &impl Wait) -> Option<(Shared, Pass, Started)>
+    ensures table { IfSome result (λ made. IsOf made.0 made.1) }
+    ensures maker { IfSome result (λ made. IsMaker made.0.setup made.2 (view made.1)) }
 {
-    let program = Program {
-        kinds: List::new(alloc),
-        roots: List::new(alloc),
-    };
-    let columns = Columns::none(alloc);
-    Shared::opened(alloc, Checked::seal(program), columns, plan_of(), phases)
+    let checked = program_of(alloc, PROGRAM)?;
+    let plan = plan_of(&checked)?;
+    open_maker(alloc, rt, checked, plan).ok()?
 }
 
-// One record more: it is kept as its phase says.
-fn add_record(
-    shared: &Shared,
-    pass: &Pass,
-    hand: &mut Hand,
-    unit: u32,
-    phase: Phase,
-) -> Result<(), AllocError>
-    requires phase { OpenedAs unit phase (view pass.now) }
-    requires hand { IsFirstHand (plan shared.now) unit hand.old (view pass.now) }
-    requires inside { unit < units_of (plan shared.now) }
-    ensures { IfOk result (λ _. IsFirstHand (plan shared.now) (unit + 1) hand.new (view pass.now)) }
+// A hand with nothing.
+fn empty_hand(alloc: Global, shared: &Shared, pass: &Pass) -> Hand
+    ensures hand { IsOpenHand (plan shared.now) result (view pass.now) }
+    ensures count { vec_len result.stages ≡ 0 }
 {
-    match phase {
-        Phase::Waiting => {
-            hand.waiting.push(pass.opened_waiting(unit))?;
-            hand.stages.push(Stage::Other)?;
-            Ok(())
-        }
-        Phase::Running => {
-            let started = pass.opened_running(unit);
-            hand.stages.push(Stage::Running(started))?;
-            Ok(())
-        }
-        _ => {
-            hand.stages.push(Stage::Other)?;
-            Ok(())
-        }
+    let _table = shared;
+    let _pass = pass;
+    Hand {
+        waiting: Vec::new(alloc),
+        back: Vec::new(alloc),
+        owners: Vec::new(alloc),
+        stages: Vec::new(alloc),
     }
 }
 
-/// What the first pass has of the records in these phases.
+// So many records with lists, where there were none.
+fn add_lists(
+    shared: &Shared,
+    rt: &impl Wait,
+    pass: &mut Pass,
+    maker: &Started,
+    hand: &mut Hand,
+    lists: u32,
+) -> Option<()>
+    requires table { IsOf shared.now pass.old }
+    requires maker { IsMaker shared.now.setup maker.now (view pass.old) }
+    requires hand { IsOpenHand (plan shared.now) hand.old (view pass.old) }
+    requires none { vec_len hand.old.stages ≡ 0 }
+    ensures table { IsOf shared.now pass.new }
+    ensures maker { IfSome result (λ _. IsMaker shared.now.setup maker.now (view pass.new)) }
+    ensures hand { IfSome result (λ _. IsOpenHand (plan shared.now) hand.new (view pass.new)) }
+    ensures count { IfSome result (λ _. vec_len hand.new.stages ≡ lists) }
+{
+    for list in 0..lists {
+        add_list(shared, rt, pass, maker, hand)?;
+    }
+    Some(())
+}
+
+// One record for each of these lists, which is to join it. None: there is no such list, too.
+fn add_all(
+    shared: &Shared,
+    rt: &impl Wait,
+    pass: &mut Pass,
+    maker: &Started,
+    hand: &mut Hand,
+    joins: &[u32],
+) -> Option<()>
+    requires table { IsOf shared.now pass.old }
+    requires maker { IsMaker shared.now.setup maker.now (view pass.old) }
+    requires hand { IsOpenHand (plan shared.now) hand.old (view pass.old) }
+    ensures table { IsOf shared.now pass.new }
+    ensures hand { IfSome result (λ _. IsOpenHand (plan shared.now) hand.new (view pass.new)) }
+    ensures count { vec_len hand.new.stages ≡ vec_len hand.old.stages }
+{
+    for at in 0..joins.len() {
+        let list = joins[at];
+        if list as usize >= hand.stages.len() {
+            return None;
+        }
+        add_waiting(shared, rt, pass, maker, hand, list)?;
+    }
+    Some(())
+}
+
+/// A table with so many records that run, and for each of `joins` one that waits behind the task of
+/// the record with this list. None: memory, blocks or numbers are short, or there is no such list.
 pub fn open_hand(
     alloc: Global,
-    shared: &Shared,
-    pass: &Pass,
-    phases: &[Phase],
-) -> Result<Hand, AllocError>
-    requires view { view pass.now ≡ opened_view phases.now }
-    requires few { length phases.now ≤ units_of (plan shared.now) }
-    ensures hand { IfOk result (λ hand. IsHand (plan shared.now) hand (view pass.now)) }
-    ensures count { IfOk result (λ hand. vec_len hand.stages ≡ length phases.now) }
+    rt: &impl Wait,
+    lists: u32,
+    joins: &[u32],
+) -> Option<(Shared, Pass, Hand)>
+    ensures table { IfSome result (λ made. IsOf made.0 made.1) }
+    ensures hand { IfSome result (λ made. IsHand (plan made.0) made.2 (view made.1)) }
+    ensures count { IfSome result (λ made. vec_len made.2.stages ≡ lists) }
 {
-    let mut hand = Hand {
-        waiting: Vec::new(alloc),
-        stages: Vec::new(alloc),
-    };
-    for unit in 0..phases.len() {
-        add_record(shared, pass, &mut hand, unit as u32, phases[unit])?;
-    }
-    Ok(hand)
+    let (shared, mut pass, maker) = open_table(alloc, rt)?;
+    let mut hand = empty_hand(alloc, &shared, &pass);
+    add_lists(&shared, rt, &mut pass, &maker, &mut hand, lists)?;
+    add_all(&shared, rt, &mut pass, &maker, &mut hand, joins)?;
+    Some((shared, pass, hand))
 }

@@ -3,4 +3,4 @@ use Rattle.reference_rows.specs.Hands.{IsHand}
 use Rattle.reference_rows.proofs.random.drain.Given as goal
 
 abbrev pub invariant-loop-reference : goal.invariant-loop-reference
-invariant-loop-reference l = IsOf l.shared l.pass × IsHand l.hand.futures l.hand.own (view l.pass)
+invariant-loop-reference g l = IsOf l.shared l.pass × IsHand l.hand.futures l.hand.own (view l.pass)

@@ -4,31 +4,32 @@ use Rattle.std.specs.Prelude.{slice_set}
 use Rattle.step_table.specs.Passes.{view}
 use Rattle.wait_rows.specs.declared.stage.Stage.{Stage}
 use Rattle.wait_rows.specs.Hands.{HasHand}
-use Rattle.wait_rows.proofs.HandFacts.{at-index, unclosed-of, hand-taken, put-back}
+use Rattle.wait_rows.proofs.FoundFacts.{at-index}
+use Rattle.wait_rows.proofs.ListsFacts.{unclosed-of, hand-taken, put-back}
 
 pub close_list-requires-clause-hand : goal.close_list-requires-clause-hand
 close_list-requires-clause-hand c =
     let g = c.args.shared.now.setup.plan in let hand = c.args.hand.now in
-    let at = at-index hand.stages.items c.args.unit c.index_mut.result.now (omega (arith, c.requires.unit, hand.stages.ok)) c.index_mut.ensures.value in
-    unclosed-of g hand.waiting.items hand.stages.items c.args.unit c.in-Done.finishing (view c.args.pass.now) c.requires.hand
+    let at = at-index hand.stages.items c.args.list c.index_mut.result.now (omega (arith, c.requires.list, hand.stages.ok)) c.index_mut.ensures.value in
+    unclosed-of g hand.owners.items hand.stages.items c.args.list c.in-Done.finishing (view c.args.pass.now) c.requires.hand.lists
     (at ∙ ap Some (sym c.replace.ensures.value ∙ c.in-Done.is))
 
 pub returns-in-Done-clause-hand : goal.returns-in-Done-clause-hand
 returns-in-Done-clause-hand c =
     let g = c.args.shared.now.setup.plan in let hand = c.args.hand.now in
-    let at = at-index hand.stages.items c.args.unit c.index_mut.result.now (omega (arith, c.requires.unit, hand.stages.ok)) c.index_mut.ensures.value in
-    subst (λ (x : Stage). HasHand g hand.waiting.items (slice_set hand.stages.items c.args.unit x) (view c.close_list.new.pass)) (sym c.replace.ensures.after)
-    (hand-taken g hand.waiting.items hand.stages.items c.args.unit c.in-Done.finishing c.args.pass.now c.close_list.new.pass _ c.requires.hand
+    let at = at-index hand.stages.items c.args.list c.index_mut.result.now (omega (arith, c.requires.list, hand.stages.ok)) c.index_mut.ensures.value in
+    subst (λ (x : Stage). HasHand g hand.waiting.items hand.back.items hand.owners.items (slice_set hand.stages.items c.args.list x) (view c.close_list.new.pass)) (sym c.replace.ensures.after)
+    (hand-taken g hand.waiting.items hand.back.items hand.owners.items hand.stages.items c.args.list c.in-Done.finishing c.args.pass.now c.close_list.new.pass _ c.requires.hand
     (at ∙ ap Some (sym c.replace.ensures.value ∙ c.in-Done.is)) c.close_list.ensures.chain)
 
 pub returns-in_default : goal.returns-in_default
 returns-in_default c =
     let hand = c.args.hand.now in
-    let at = at-index hand.stages.items c.args.unit c.index_mut.result.now (omega (arith, c.requires.unit, hand.stages.ok)) c.index_mut.ensures.value in
+    let at = at-index hand.stages.items c.args.list c.index_mut.result.now (omega (arith, c.requires.list, hand.stages.ok)) c.index_mut.ensures.value in
     record {
       table = c.requires.table;
-      hand = subst (λ (l : List Stage). HasHand c.args.shared.now.setup.plan hand.waiting.items l (view c.args.pass.now))
-          (sym (put-back hand.stages.items c.args.unit c.replace.new.dest c.replace.result (at ∙ ap Some (sym c.replace.ensures.value)))) c.requires.hand;
+      hand = subst (λ (l : List Stage). HasHand c.args.shared.now.setup.plan hand.waiting.items hand.back.items hand.owners.items l (view c.args.pass.now))
+          (sym (put-back hand.stages.items c.args.list c.replace.new.dest c.replace.result (at ∙ ap Some (sym c.replace.ensures.value)))) c.requires.hand;
       count = refl;
       chain = tt;
     }

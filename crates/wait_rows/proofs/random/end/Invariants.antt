@@ -3,9 +3,9 @@ use Rattle.step_table.specs.Passes.{view, IsOf}
 use Rattle.wait_rows.specs.Hands.{IsHand}
 use Rattle.wait_rows.proofs.random.end.Given as goal
 
-abbrev pub invariant-loop-unit : goal.invariant-loop-unit
-invariant-loop-unit g l = record {
+abbrev pub invariant-loop-list : goal.invariant-loop-list
+invariant-loop-list g l = record {
   table : IsOf l.shared l.pass;
   hand : IsHand l.shared.setup.plan l.hand (view l.pass);
-  count : vec_len l.hand.stages ≡ 432;
+  count : vec_len l.hand.stages ≡ 32;
 }

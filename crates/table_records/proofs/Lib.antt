@@ -1,0 +1,5 @@
+pub mod PlainFacts
+pub mod StageFacts
+pub mod PlaceFacts
+pub mod OpeningFacts
+pub mod RootFacts
