@@ -1,6 +1,6 @@
 -- The laws of the words of superblocks, by name.
 use Rattle.std.proofs.Common.{◌≡◌, arith}
-use Rattle.kt_words.specs.SuperWordLaws.{SuperWordSaysItsNumbers, SuperWordIsItsNumbers, SuperWordSaysItsValue, SuperWordHasOneValue, SuperWordFits, CountRises, CountFalls, EverRises, ClassChanges, WordReserves, WordReservesSame}
+use Rattle.kt_words.specs.SuperWordLaws.{SuperWordSaysItsNumbers, SuperWordIsItsNumbers, SuperWordSaysItsValue, SuperWordHasOneValue, SuperWordFits, CountRises, CountFalls, EverRises, ClassChanges, WordReserves, WordReservesSame, EverIsCounted}
 
 pub super_word_says_its_numbers : SuperWordSaysItsNumbers
 super_word_says_its_numbers count class ever a b = record { count_is = omega arith; class_is = omega arith; ever_is = omega arith }
@@ -43,3 +43,6 @@ word_reserves word class below fits =
 
 pub word_reserves_same : WordReservesSame
 word_reserves_same word below rises = omega arith
+
+pub ever_is_counted : EverIsCounted
+ever_is_counted = (λ ever below. omega (arith, below), λ ever above. omega (arith, above))

@@ -1,6 +1,6 @@
 -- Laws of the words of superblocks, as numbers.
-use Rattle.std.specs.Prelude.{◌≡◌, ◌↔◌, ℕ, ◌+◌, ◌-◌, ◌*◌, ◌^◌, ◌<◌}
-use Rattle.kt_words.specs.SuperWords.{FitsSuperWord, IsSuperWord, super_word, packed_super, most_ever, risen, reserved_word, count_of, class_of, ever_of}
+use Rattle.std.specs.Prelude.{◌≡◌, ◌↔◌, ℕ, ◌+◌, ◌-◌, ◌*◌, ◌^◌, ◌<◌, ◌≤◌}
+use Rattle.kt_words.specs.SuperWords.{FitsSuperWord, IsSuperWord, super_word, packed_super, risen, reserved_word, count_of, class_of, ever_of}
 use Rattle.kt_words.specs.declared.super_word.SuperWord.{SuperWord}
 
 -- the word has these numbers
@@ -50,6 +50,10 @@ abbrev pub WordReserves : Type 0
 WordReserves = (word class : ℕ) → count_of word < 65535 → class < 16
     → SuperWordSays (reserved_word word class) (count_of word + 1) class (risen (ever_of word)) × (reserved_word word class < 2 ^ 64)
 
+-- the last number rises by one up to 2^44 - 1, and stands still there
+abbrev pub EverIsCounted : Type 0
+EverIsCounted = ((ever : ℕ) → ever + 1 < 2 ^ 44 → risen ever ≡ ever + 1) × ((ever : ℕ) → 2 ^ 44 ≤ ever + 1 → risen ever + 1 ≡ 2 ^ 44)
+
 -- where the class stays and the last number still rises, a reservation adds one to each of the two numbers
 abbrev pub WordReservesSame : Type 0
-WordReservesSame = (word : ℕ) → count_of word < 65535 → ever_of word < most_ever → reserved_word word (class_of word) ≡ word + 1 + 1048576
+WordReservesSame = (word : ℕ) → count_of word < 65535 → ever_of word + 1 < 2 ^ 44 → reserved_word word (class_of word) ≡ word + 1 + 1048576

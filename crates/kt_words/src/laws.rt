@@ -1,9 +1,9 @@
 ghost use Rattle.kt_words.specs.ClassLaws.{BlocksHaveWords, ClassIsLeast, ClassIsOneOfFour, ClassRises};
 ghost use Rattle.kt_words.specs.GeometryLaws.{UnitsByName, BlocksFill, BlocksEndInside, UnitNamesPlace, RoomIsEither, NumbersMakeGeometry, NumbersMakePlan};
-ghost use Rattle.kt_words.specs.SuperWordLaws.{SuperWordSaysItsNumbers, SuperWordIsItsNumbers, SuperWordSaysItsValue, SuperWordHasOneValue, SuperWordFits, CountRises, CountFalls, EverRises, ClassChanges, WordReserves, WordReservesSame};
+ghost use Rattle.kt_words.specs.SuperWordLaws.{SuperWordSaysItsNumbers, SuperWordIsItsNumbers, SuperWordSaysItsValue, SuperWordHasOneValue, SuperWordFits, CountRises, CountFalls, EverRises, ClassChanges, WordReserves, WordReservesSame, EverIsCounted};
 ghost use Rattle.kt_words.specs.StateWordLaws.{StateWordSaysItsNumbers, StateWordIsItsNumbers, StateWordSaysItsValue, StateWordHasOneValue, PhaseHasOneCode, TagHasOneCode, PhaseChanges, PriorityChanges, TagChanges, NumberChanges};
 ghost use Rattle.kt_words.specs.HeadWordLaws.{HeadWordSaysItsNumbers, HeadWordIsItsNumbers, HeadWordSaysItsValue, HeadWordHasOneValue, LinkHasOneCode, ListedIsNotClosed, LengthRises, LengthFalls, FirstChanges};
-ghost use Rattle.kt_words.specs.RootWordLaws.{RootWordIsAmongThem, RootWordHasOneValue, ZeroIsNotAsked, EachUnitFits};
+ghost use Rattle.kt_words.specs.RootWordLaws.{RootWordIsAmongThem, RootWordHasOneValue, ZeroIsNotAsked, EachUnitFits, EachAnswerFits};
 
 /// What each geometry keeps.
 pub fn geometries()
@@ -45,6 +45,7 @@ pub fn super_words_change()
     ensures class { ClassChanges }
     ensures reserved { WordReserves }
     ensures reserved_same { WordReservesSame }
+    ensures counted { EverIsCounted }
 {}
 
 /// A state's word and its numbers say the same.
@@ -88,4 +89,5 @@ pub fn root_words()
     ensures one_value { RootWordHasOneValue }
     ensures zero { ZeroIsNotAsked }
     ensures units { EachUnitFits }
+    ensures answers { EachAnswerFits }
 {}

@@ -1,4 +1,4 @@
-ghost use Rattle.std.specs.Prelude.{◌≡◌, ◌+◌, ◌<◌, ◌≤◌, ◌↔◌, IsSome, IfSome};
+ghost use Rattle.std.specs.Prelude.{◌≡◌, ◌+◌, ◌<◌, ◌≤◌, ◌^◌, ◌↔◌, IsSome, IfSome};
 ghost use Rattle.kt_words.specs.SuperWords.{FitsSuperWord, HasSuperWord, IsSuperWord, ReadsSuper, packed_super, reserved_word, risen};
 ghost use Rattle.kt_words.specs.declared.super_word.SuperWord.{SuperWord};
 
@@ -60,6 +60,8 @@ impl SuperWord {
         ensures count { result.count ≡ self.count + 1 }
         ensures class { result.class ≡ class }
         ensures ever { result.ever ≡ risen self.ever }
+        ensures rises { self.ever + 1 < 2 ^ 44 → result.ever ≡ self.ever + 1 }
+        ensures stands { self.ever + 1 ≡ 2 ^ 44 → result.ever ≡ self.ever }
         ensures fits { FitsSuperWord result }
     {
         SuperWord {

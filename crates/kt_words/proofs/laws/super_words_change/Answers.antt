@@ -1,4 +1,4 @@
-use Rattle.kt_words.proofs.SuperWordFacts.{count_rises, count_falls, ever_rises, class_changes, word_reserves, word_reserves_same}
+use Rattle.kt_words.proofs.SuperWordFacts.{count_rises, count_falls, ever_rises, class_changes, word_reserves, word_reserves_same, ever_is_counted}
 use Rattle.kt_words.proofs.laws.super_words_change.Goals as goal
 
 pub returns-clause-more : goal.returns-clause-more
@@ -18,3 +18,6 @@ returns-clause-reserved c = word_reserves
 
 pub returns-clause-reserved_same : goal.returns-clause-reserved_same
 returns-clause-reserved_same c = word_reserves_same
+
+pub returns-clause-counted : goal.returns-clause-counted
+returns-clause-counted c = ever_is_counted
