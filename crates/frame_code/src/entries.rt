@@ -113,6 +113,7 @@ fn put_passed(checked: &CheckedCode, kind: u16, passed: &[Passed], words: &mut [
 
 /// Makes a frame the first one of a task to which this is passed. A future that the entry state does
 /// not hold is not named.
+#[inline(always)]
 pub fn entry_frame(checked: &CheckedCode, kind: u16, passed: &[Passed], frame: &mut Frame)
     requires kind { kind < length checked.now.kinds }
     requires passed { MayEnterWith checked.now kind passed.now }

@@ -73,6 +73,7 @@ impl Engine {
 
     /// A variable of the running task names a new task, which waits for what it is behind or may
     /// start, and the running task goes on.
+    #[inline(always)]
     pub fn place(
         &mut self,
         checked: &CheckedCode,

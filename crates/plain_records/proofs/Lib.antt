@@ -2,3 +2,6 @@ mod Waking
 mod Popped
 mod Outs
 mod Given
+mod Blocks
+mod Behind
+mod Kept

@@ -2,7 +2,7 @@ ghost use Rattle.std.specs.Prelude.{◌≡◌, ◌+◌, ◌*◌, ◌≤◌, drop
 ghost use Rattle.plain_state.specs.Store.{FitsAt, HasUnit, changed, frame_at, stored, units_of, with_length, written};
 ghost use Rattle.plain_records.specs.Allocated.{HasFrame, with_written};
 
-use crate::store::Records;
+use crate::store::{BEFORE, Records};
 use frame_code::Frame;
 
 /// Reads so many of the words, from a place on, into a frame. The frame that was read before often
@@ -22,9 +22,9 @@ fn read_at(words: &[u64], at: usize, count: usize, frame: &mut Frame)
 }
 
 /// Writes words over those from a place on.
-fn write_at(words: &mut [u64], at: usize, new: &[u64])
-    requires within { at + length new.now ≤ length words.old }
-    ensures { words.new ≡ written at new.now words.old }
+fn write_at(words: &mut Vec<u64>, at: usize, new: &[u64])
+    requires within { at + length new.now ≤ length words.old.items }
+    ensures { words.new.items ≡ written at new.now words.old.items }
 {
     words[at..at + new.len()].copy_from_slice(new);
 }
@@ -36,7 +36,12 @@ impl Records {
         ensures { frame.new.items ≡ frame_at self.now unit }
     {
         let count = self.records[unit as usize].length() as usize;
-        read_at(self.words.as_slice(), unit as usize * 8, count, frame);
+        read_at(
+            self.words.as_slice(),
+            BEFORE + unit as usize * 8,
+            count,
+            frame,
+        );
     }
 
     /// Keeps the frame of a task.
@@ -62,6 +67,6 @@ impl Records {
         requires { at + length words.now ≤ units_of self.old * 8 }
         ensures { self.new ≡ with_written at words.now self.old }
     {
-        write_at(self.words.as_mut_slice(), at, words);
+        write_at(&mut self.words, BEFORE + at, words);
     }
 }

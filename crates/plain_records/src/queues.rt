@@ -19,6 +19,7 @@ fn cut_of(outcome: Outcome) -> Option<CutTag>
 
 impl Records {
     /// The task's last activation joins the queue of its priority.
+    #[inline(always)]
     pub fn queue(&mut self, unit: u32)
         requires unit { HasUnit self.old unit }
         requires place { HasPlaces self.old 1 }

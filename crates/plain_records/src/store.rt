@@ -7,17 +7,19 @@ use crate::ready::Ready;
 use crate::slot::Slot;
 use kt_words::{Geometry, SuperWord};
 use plain_state::Record;
-use pool_core::{Block, PlainPool};
+use pool_core::PlainPool;
 use std::alloc::{AllocError, Global};
 use std::marker::Model;
 
 /// The records of a run, by the first unit of their block, with the pool that the blocks are from,
 /// the frames, 8 words to a unit, and a queue for each priority of the activations that may start.
+/// Of a block the class is kept, at its first unit. The words of the first unit stand behind
+/// `BEFORE` others.
 #[derive(Drop)]
 pub struct Records {
     pub(crate) superblocks: u32,
     pub(crate) pool: PlainPool,
-    pub(crate) blocks: Vec<Option<Block>>,
+    pub(crate) classes: Vec<Option<u8>>,
     pub(crate) records: Vec<Slot>,
     pub(crate) words: Vec<u64>,
     pub(crate) ready: Ready,
@@ -25,15 +27,20 @@ pub struct Records {
 
 impl Model for Records {
     ghost use Rattle.plain_state.specs.Store.{StoreState};
-    ghost use Rattle.plain_records.specs.StoreView.{store_of, AreRecords};
+    ghost use Rattle.plain_records.specs.StoreView.{store_of, blocks_of, unit_words, AreRecords};
 
     ghost Value = { StoreState };
 
-    ghost view = { λ r. store_of r.pool r.blocks.items r.records.items r.words.items r.ready };
+    ghost view = { λ r. store_of r.pool (blocks_of r.classes.items) r.records.items
+        (unit_words r.words.items) r.ready };
 
-    ghost invariant = { λ r. AreRecords r.superblocks r.pool r.blocks.items r.records.items
-        r.words.items r.ready };
+    ghost invariant = { λ r. AreRecords r.superblocks r.pool (blocks_of r.classes.items)
+        r.records.items r.words.items r.ready };
 }
+
+/// So many words stand before those of the first unit. Large pieces of memory mostly begin 16 bytes
+/// behind the start of a line of the cache: then the 8 words of each unit are one line.
+pub const BEFORE: usize = 6;
 
 /// A record for each unit that was never written.
 fn unused_slots(alloc: Global, count: usize) -> Result<Vec<Slot>, AllocError>
@@ -46,32 +53,33 @@ fn unused_slots(alloc: Global, count: usize) -> Result<Vec<Slot>, AllocError>
     Ok(slots)
 }
 
-/// No block for each unit.
-fn no_blocks(alloc: Global, count: usize) -> Result<Vec<Option<Block>>, AllocError>
-    ensures { IfOk result (λ blocks. blocks.items ≡ replicate count None) }
+/// No class for each unit.
+fn no_classes(alloc: Global, count: usize) -> Result<Vec<Option<u8>>, AllocError>
+    ensures { IfOk result (λ classes. classes.items ≡ replicate count None) }
 {
-    let mut blocks = Vec::with_capacity(alloc, count)?;
+    let mut classes = Vec::with_capacity(alloc, count)?;
     'units: for _ in 0..count {
-        blocks.push(None)?;
+        classes.push(None)?;
     }
-    Ok(blocks)
+    Ok(classes)
 }
 
 impl Records {
     /// No record, and all memory that later calls need.
+    #[tactic(auto, using(crate::proofs::Blocks::blocks_none, crate::proofs::Behind::none_written))]
     pub fn new(alloc: Global, geometry: Geometry) -> Result<Records, AllocError>
         ensures { IfOk result (λ made. made ≡ unused_store geometry.superblocks geometry.units) }
     {
         let units = geometry.superblocks as usize * geometry.units as usize;
         let pool = PlainPool::new(alloc, geometry)?;
-        let blocks = no_blocks(alloc, units)?;
+        let classes = no_classes(alloc, units)?;
         let records = unused_slots(alloc, units)?;
-        let words = vec![in alloc; 0; units * 8]?;
+        let words = vec![in alloc; 0; units * 8 + BEFORE]?;
         let ready = Ready::new(alloc, units)?;
         Ok(Records {
             superblocks: geometry.superblocks,
             pool,
-            blocks,
+            classes,
             records,
             words,
             ready,

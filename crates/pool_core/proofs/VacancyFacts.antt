@@ -1,5 +1,5 @@
 -- The superblocks that can give a block, before and after one of them changes.
-use Rattle.std.proofs.Common.{◌≡◌, ◌≢◌, ◌↔◌, ◌⊎◌, ℕ, ◌<◌, ◌≤◌, Bool, true, false, List, [], Option, Some, None, length, replicate, slice_get, get_or, set, zero, suc, refl, sym, ◌∙◌, ap, subst, inl, inr, ⊎_elim, arith, length-set, get_or-set_same, get_or-set_other}
+use Rattle.std.proofs.Common.{◌≡◌, ◌≢◌, ◌↔◌, ◌⊎◌, ℕ, ◌<◌, ◌≤◌, Bool, true, false, if◌then◌else◌, List, [], Option, Some, None, length, replicate, slice_get, get_or, set, zero, suc, refl, sym, ◌∙◌, ap, subst, inl, inr, ⊎_elim, arith, length-set, get_or-set_same, get_or-set_other}
 use Rattle.std.proofs.lemmas.Bool.{cases_eq, false≢true}
 use Rattle.std.proofs.lemmas.Option.{same_Some, slice_get_within, slice_get-get_or}
 use Rattle.claim_core.specs.Claims.{IsSet}
@@ -131,6 +131,45 @@ module _ (P : SuperblockState → Type 0) (superblocks : List SuperblockState) (
         (λ ne. (λ is_set. (has_other other ne).1 ((those.are other).0 is_set), λ has. (those.are other).1 ((has_other other ne).0 has)))
         (cases_eq other at);
   }
+
+  -- the bit of the position stays, where both superblocks have P, or neither
+  those_kept : (bits : List Bool) (was : SuperblockState) → AreThose P superblocks bits → slice_get superblocks at ≡ Some was → P was ↔ P new
+      → AreThose P (set superblocks at new) bits
+  those_kept bits was those there both = record {
+    size = those.size;
+    are = λ other. ⊎_elim
+        (λ e. (
+          λ is_set. let found = (those.are other).0 is_set in
+              subst (HasAt P (set superblocks at new)) (sym e)
+              (has_here.1 (both.0 (subst P (same_Some found.0 was (sym found.1.0 ∙ ap (slice_get superblocks) e ∙ there)) found.1.1))),
+          λ has. (those.are other).1 (was, (ap (slice_get superblocks) e ∙ there, both.1 (has_here.0 (subst (HasAt P (set superblocks at new)) e has)))),
+        ))
+        (λ ne. (λ is_set. (has_other other ne).1 ((those.are other).0 is_set), λ has. (those.are other).1 ((has_other other ne).0 has)))
+        (cases_eq other at);
+  }
+
+-- the sets stay, where a superblock of a class had room and blocks out, and has
+pub vacancies_kept : (units at class : ℕ) (superblocks : List SuperblockState) (vacancies : Vacancies) (was new : SuperblockState) → AreVacancies units superblocks vacancies
+    → slice_get superblocks at ≡ Some was → HasRoom class (capacity units class) was → HasRoom class (capacity units class) new → ¬ IsEmpty was → ¬ IsEmpty new
+    → AreVacancies units (set superblocks at new) vacancies
+vacancies_kept units at class superblocks vacancies was new are there had has was_some some = record {
+  classes = are.classes;
+  with_room = λ other fits. those_kept (HasRoom other (capacity units other)) superblocks at new (slice_get_within superblocks at was there) (room_set vacancies other) was (are.with_room other fits) there (
+    λ room. subst (λ k. HasRoom k (capacity units k) new) (sym had.of_class ∙ room.of_class) has,
+    λ room. subst (λ k. HasRoom k (capacity units k) was) (sym has.of_class ∙ room.of_class) had,
+  );
+  empty = those_kept IsEmpty superblocks at new (slice_get_within superblocks at was there) vacancies.empty was are.empty there (λ e. absurd (was_some e), λ e. absurd (some e));
+}
+
+-- what is noted only where something changed
+noted_if : (same : Bool) (P : Vacancies → Type 0) (new old : Vacancies) → P new → (same ≡ true → P old) → P (if same then old else new)
+noted_if true P new old noting staying = staying refl
+noted_if false P new old noting staying = noting
+
+noted_change : (changed same : Bool) (P : Vacancies → Type 0) (new old : Vacancies) → P new → (changed ≡ false → same ≡ true → P old)
+    → P (if changed then new else (if same then old else new))
+noted_change true same P new old noting staying = noting
+noted_change false same P new old noting staying = noted_if same P new old noting (staying refl)
 
 -- the set of a class after one set was noted: that one, or another
 noted_same : (sets : List (List Bool)) (class at : ℕ) (bit : Bool) → class < length sets
@@ -291,3 +330,37 @@ vacancies_taken_back units at class bit superblocks vacancies was now is_empty a
     (subst (λ s. AreVacancies units (set superblocks at s) (noted vacancies at was.class was.class true is_empty)) (sym after)
     (vacancies_noted units at superblocks vacancies was (taken_back was bit) true are there sound.few kept.class_fits kept.class_fits (λ _. room, λ _. refl)
     is_empty (subst (λ s. (is_empty ≡ true) ↔ IsEmpty s) after tells)))
+
+-- the same, where it is noted only if something changed
+pub change_given : (units at class was_class bit room : ℕ) (superblocks : List SuperblockState) (vacancies : Vacancies) (was now : SuperblockState) (has_room was_empty : Bool)
+    → AreVacancies units superblocks vacancies → IsSound (record { units = units; superblocks = superblocks }) → class ≤ 3
+    → IsReady (record { units = units; superblocks = superblocks }) class at was → was_class ≡ was.class → room ≡ capacity units class
+    → now ≡ given was class bit → (has_room ≡ true) ↔ HasRoom class room now → (was_empty ≡ true) ↔ IsEmpty was
+    → AreVacancies units (set superblocks at now) (if was_empty then noted vacancies at was_class class has_room false
+    else (if has_room then vacancies else noted vacancies at was_class class has_room false))
+change_given units at class was_class bit room superblocks vacancies was now has_room was_empty are sound fits ready old_class size after tells tells_empty =
+    noted_change was_empty has_room (AreVacancies units (set superblocks at now)) (noted vacancies at was_class class has_room false) vacancies
+    (vacancies_given units at class was_class bit room superblocks vacancies was now has_room are sound fits ready old_class size after tells)
+    (λ not_empty with_room.
+    let some : ¬ IsEmpty was = λ e. false≢true (sym not_empty ∙ tells_empty.1 e) in
+    let of_class : was.class ≡ class = ⊎_elim (λ same. same) (λ e. absurd (some e)) ready.of_class in
+    vacancies_kept units at class superblocks vacancies was now are ready.there (record { of_class = of_class; below = ready.below })
+    (subst (λ k. HasRoom class k now) size (tells.0 with_room)) some
+    (λ e. omega (arith, ap (λ (s : SuperblockState). s.count) after, e)))
+
+pub change_taken_back : (units at class bit room : ℕ) (superblocks : List SuperblockState) (vacancies : Vacancies) (was now : SuperblockState) (is_empty had_room : Bool)
+    → AreVacancies units superblocks vacancies → IsSound (record { units = units; superblocks = superblocks })
+    → slice_get superblocks at ≡ Some was → IsSet was.set bit → class ≡ was.class → room ≡ capacity units class → now ≡ taken_back was bit → (is_empty ≡ true) ↔ IsEmpty now
+    → (had_room ≡ true) ↔ HasRoom class room was
+    → AreVacancies units (set superblocks at now) (if is_empty then noted vacancies at class class true is_empty
+    else (if had_room then vacancies else noted vacancies at class class true is_empty))
+change_taken_back units at class bit room superblocks vacancies was now is_empty had_room are sound there is_set same size after tells tells_room =
+    noted_change is_empty had_room (AreVacancies units (set superblocks at now)) (noted vacancies at class class true is_empty) vacancies
+    (vacancies_taken_back units at class bit superblocks vacancies was now is_empty are sound there is_set same after tells)
+    (λ not_empty with_room.
+    let kept = sound.kept at was there in
+    let out : 0 < was.count = omega (arith, set_count_some was.set bit is_set, kept.counted) in
+    let had : HasRoom class (capacity units class) was = subst (λ k. HasRoom class k was) size (tells_room.0 with_room) in
+    vacancies_kept units at class superblocks vacancies was now are there had
+    (record { of_class = ap (λ (s : SuperblockState). s.class) after ∙ had.of_class; below = omega (arith, ap (λ (s : SuperblockState). s.count) after, had.below) })
+    (λ e. omega (arith, e, out)) (λ e. false≢true (sym not_empty ∙ tells.1 e)))

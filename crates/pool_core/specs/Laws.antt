@@ -1,5 +1,6 @@
 -- Laws of pools.
 use Rattle.std.specs.Prelude.{◌≡◌, ◌↔◌, ◌⊎◌, ◌==◌, ℕ, ◌≤◌, Some, cond, length, slice_get}
+use Rattle.kt_words.specs.Capacity.{IsWithoutRoom}
 use Rattle.pool_core.specs.Blocks.{BlockState}
 use Rattle.pool_core.specs.Pool.{PoolState, IsOut, IsOutIn, Gives, HasNoRoom, IsSound, SoMany, BlocksAreApart, BlocksAreInside, BlocksAreCounted}
 use Rattle.pool_core.specs.Superblocks.{SuperblockState}
@@ -29,6 +30,11 @@ GivesOrHasNoRoom = (pool : PoolState) (class : ℕ) → IsSound pool → class �
 -- and never both
 abbrev pub NeverGivesWithoutRoom : Type 0
 NeverGivesWithoutRoom = (pool : PoolState) (class : ℕ) → IsSound pool → class ≤ 3 → MayGive pool class → HasNoRoom pool class → ⊥
+
+-- a pool has no room for a class exactly where each superblock's class and count leave none
+abbrev pub NoRoomIsFull : Type 0
+NoRoomIsFull = (pool : PoolState) (class : ℕ) → HasNoRoom pool class
+    ↔ ((place : ℕ) (superblock : SuperblockState) → slice_get pool.superblocks place ≡ Some superblock → IsWithoutRoom pool.units class superblock.class superblock.count)
 
 -- the blocks of a class that are out of a superblock: as many as its count where it is of the class, else none
 abbrev pub SuperblocksAreCounted : Type 0

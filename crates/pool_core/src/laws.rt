@@ -1,4 +1,4 @@
-ghost use Rattle.pool_core.specs.Laws.{SoundBlocksAreApart, SoundBlocksAreInside, SoundBlocksAreCounted, OneIsGiven, GivesOrHasNoRoom, NeverGivesWithoutRoom, SuperblocksAreCounted, SuperblockIsItsBlocks, PoolIsItsBlocks};
+ghost use Rattle.pool_core.specs.Laws.{SoundBlocksAreApart, SoundBlocksAreInside, SoundBlocksAreCounted, OneIsGiven, GivesOrHasNoRoom, NeverGivesWithoutRoom, NoRoomIsFull, SuperblocksAreCounted, SuperblockIsItsBlocks, PoolIsItsBlocks};
 
 /// No two blocks that are out share a unit, each lies inside the pool, and they are as many as the counts say together.
 pub fn blocks_that_are_out()
@@ -22,6 +22,7 @@ pub fn superblocks_are_their_blocks()
 pub fn gives_or_has_no_room()
     ensures either { GivesOrHasNoRoom }
     ensures not_both { NeverGivesWithoutRoom }
+    ensures full { NoRoomIsFull }
 {}
 
 /// The pool before says which block is given, and what the pool is afterwards.

@@ -87,9 +87,10 @@ impl PlainPool {
         let room = self.geometry.cap(class);
         let state = &mut self.superblocks[superblock as usize];
         let was = state.class();
+        let was_empty = state.is_empty();
         let bit = state.give(class, room);
         let has_room = state.has_room(class, room);
-        self.vacancies.note(superblock, was, class, has_room, false);
+        self.vacancies.note_change(superblock, was, class, has_room, false, was_empty, has_room);
         let unit = superblock * self.geometry.units + (bit << class);
         Block::new(unit, class)
     }
@@ -106,9 +107,23 @@ impl PlainPool {
         let (place, within) = parted(block.unit(), self.geometry.units, self.shift);
         let bit = within >> class;
         let superblock = &mut self.superblocks[place as usize];
+        let room = self.geometry.cap(class);
+        let had_room = superblock.has_room(class, room);
         superblock.take_back(bit);
         let is_empty = superblock.is_empty();
-        self.vacancies.note(place, class, class, true, is_empty);
+        self.vacancies
+            .note_change(place, class, class, true, is_empty, is_empty, had_room);
+    }
+
+    /// Takes back the block of a class at a unit, for a caller that keeps the two and not the block.
+    #[inline(always)]
+    pub fn release_at(&mut self, unit: u32, class: u8)
+        requires { IsOut self.old (record { unit = unit; class = class }) }
+        ensures back { TakesBack self.old (record { unit = unit; class = class }) self.new }
+        ensures removes { Removes self.old (record { unit = unit; class = class }) self.new }
+        ensures sound { IsSound self.new }
+    {
+        self.release(Block::new(unit, class));
     }
 
     /// What every pool keeps: it is found here by a caller that was handed one.

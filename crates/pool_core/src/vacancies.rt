@@ -1,4 +1,4 @@
-ghost use Rattle.std.specs.Prelude.{◌≡◌, ◌↔◌, ◌<◌, ◌≤◌, IsNone, IfSome, length};
+ghost use Rattle.std.specs.Prelude.{◌≡◌, ◌↔◌, ◌<◌, ◌≤◌, IsNone, IfSome, length, if◌then◌else◌};
 ghost use Rattle.pool_core.specs.Vacancies.{noted, room_set, IsFirstVacancy, IsNoneSet, AreUnusedVacancies};
 
 use crate::superblock_set::SuperblockSet;
@@ -39,6 +39,30 @@ impl Vacancies {
             return with_room;
         }
         self.empty.first()
+    }
+
+    /// Notes the same, but where nothing of it changed: `changed` tells that something did, and `same`
+    /// that nothing else did.
+    pub fn note_change(
+        &mut self,
+        superblock: u32,
+        was: u8,
+        class: u8,
+        has_room: bool,
+        is_empty: bool,
+        changed: bool,
+        same: bool,
+    )
+        requires superblock { superblock < 1024 }
+        requires was { was ≤ 3 }
+        requires class { class ≤ 3 }
+        ensures { self.new ≡ (if changed then noted self.old superblock was class has_room is_empty
+            else (if same then self.old
+            else noted self.old superblock was class has_room is_empty)) }
+    {
+        if changed || !same {
+            self.note(superblock, was, class, has_room, is_empty);
+        }
     }
 
     /// Notes that a superblock, which was of one class, is of this class and has room and is empty or not.

@@ -36,22 +36,21 @@ accepted_by was task after t n rows tasks many chosen grew also =
     ∙ ap (λ ts. journal_of (was.rows ++ record { task = task_or task (suc (length was.rows)); after = after; start = None } ∷ []) ts was.stamps was.limit) also
 
 -- the memory suffices after `accept`
-pub room-accepted : (was seen now : JournalState) (task after : Option ℕ) (rows tasks rows' tasks' : ℕ) → was ≡ seen → HasRoom was rows tasks → length was.rows < was.limit
-    → IfSome task (λ t. IsUnderWay seen t) → IfSome after (λ u. HasTask seen.rows u) → now ≡ with_accepted was task after → rows ≤ rows' → tasks ≤ tasks'
-    → HasRoom now rows' tasks'
-room-accepted was seen now task after rows tasks rows' tasks' same room more under_way waits is grew also =
-    subst (λ (j : JournalState). HasRoom j rows' tasks') (sym is) (record {
+pub room-accepted : (was seen now : JournalState) (task after : Option ℕ) (rows rows' : ℕ) → was ≡ seen → HasRoom was rows → length was.rows < was.limit
+    → IfSome task (λ t. IsUnderWay seen t) → IfSome after (λ u. HasTask seen.rows u) → now ≡ with_accepted was task after → rows ≤ rows'
+    → HasRoom now rows'
+room-accepted was seen now task after rows rows' same room more under_way waits is grew =
+    subst (λ (j : JournalState). HasRoom j rows') (sym is) (record {
       journal = accept-keeps was task after room.journal more
           (subst (λ (j : JournalState). IfSome task (λ t. IsUnderWay j t)) (sym same) under_way)
           (subst (λ (j : JournalState). IfSome after (λ u. HasTask j.rows u)) (sym same) waits);
       few = room.few;
       rows_fit = omega (arith, room.rows_fit, grew);
-      tasks_fit = omega (arith, room.tasks_fit, also);
     })
 
 -- the stamps stay far below what a word holds
-pub stamps_fit : (j : JournalState) (rows tasks : ℕ) → HasRoom j rows tasks → j.stamps ≤ 8000000
-stamps_fit j rows tasks room = omega (arith, stamps_few j room.journal, room.journal.within, room.few)
+pub stamps_fit : (j : JournalState) (rows : ℕ) → HasRoom j rows → j.stamps ≤ 8000000
+stamps_fit j rows room = omega (arith, stamps_few j room.journal, room.journal.within, room.few)
 
 -- a number from 1 on, less 1, is a position
 put_before : {A : Type 0} (xs : List A) (n : ℕ) (x : A) → 1 ≤ n → slice_set xs (n - 1) x ≡ put_number xs n x
@@ -67,13 +66,12 @@ begun_by was n row at =
     (put_before was.rows n (record row { start = Some (was.stamps + 1) }) few.0 ∙ ap (started_rows was.rows n (was.stamps + 1)) (sym at))
 
 -- the memory suffices after `begin`
-pub room-begun : (was seen now : JournalState) (n : ℕ) (rows tasks : ℕ) → was ≡ seen → HasRoom was rows tasks → MayBegin seen n → now ≡ with_begun was n → HasRoom now rows tasks
-room-begun was seen now n rows tasks same room may is =
-    subst (λ (j : JournalState). HasRoom j rows tasks) (sym is) (record {
+pub room-begun : (was seen now : JournalState) (n : ℕ) (rows : ℕ) → was ≡ seen → HasRoom was rows → MayBegin seen n → now ≡ with_begun was n → HasRoom now rows
+room-begun was seen now n rows same room may is =
+    subst (λ (j : JournalState). HasRoom j rows) (sym is) (record {
       journal = begin-keeps was n room.journal (subst (λ (j : JournalState). MayBegin j n) (sym same) may);
       few = room.few;
       rows_fit = room.rows_fit;
-      tasks_fit = room.tasks_fit;
     })
 
 -- what `finish` writes is what it says
@@ -82,14 +80,13 @@ pub finished_by : (was : JournalState) (t : ℕ) (cause : Cause) → 1 ≤ t
 finished_by was t cause some = ap (λ ts. journal_of was.rows ts (was.stamps + 1) was.limit) (put_before was.tasks t (record { finish = Some (was.stamps + 1); cause = cause }) some)
 
 -- the memory suffices after `finish`
-pub room-finished : (was seen now : JournalState) (t : ℕ) (cause : Cause) (rows tasks : ℕ) → was ≡ seen → HasRoom was rows tasks → IsUnderWay seen t → MayCause seen cause
-    → now ≡ with_finished was t cause → HasRoom now rows tasks
-room-finished was seen now t cause rows tasks same room under_way may is =
-    subst (λ (j : JournalState). HasRoom j rows tasks) (sym is) (record {
+pub room-finished : (was seen now : JournalState) (t : ℕ) (cause : Cause) (rows : ℕ) → was ≡ seen → HasRoom was rows → IsUnderWay seen t → MayCause seen cause
+    → now ≡ with_finished was t cause → HasRoom now rows
+room-finished was seen now t cause rows same room under_way may is =
+    subst (λ (j : JournalState). HasRoom j rows) (sym is) (record {
       journal = finish-keeps was t cause room.journal (subst (λ (j : JournalState). IsUnderWay j t) (sym same) under_way) (subst (λ (j : JournalState). MayCause j cause) (sym same) may);
       few = room.few;
       rows_fit = room.rows_fit;
-      tasks_fit = room.tasks_fit;
     })
 
 -- what the code reads at a number's position is its row

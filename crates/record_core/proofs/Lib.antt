@@ -11,6 +11,7 @@ pub mod BeginFacts
 pub mod FinishFacts
 pub mod CountedStamps
 pub mod JournalCode
+mod PackedFacts
 pub mod TurnFacts
 pub mod EndFacts
 pub mod HeldFacts

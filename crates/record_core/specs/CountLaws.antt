@@ -1,5 +1,5 @@
 -- Laws of how many members pass a test, as members come, go and are replaced.
-use Rattle.std.specs.Prelude.{◌≡◌, ◌↔◌, ℕ, ◌+◌, ◌<◌, ◌≤◌, Bool, true, false, List, [], ◌∷◌, ◌++◌, slice_set}
+use Rattle.std.specs.Prelude.{◌≡◌, ◌↔◌, ◌==◌, ℕ, ◌+◌, ◌<◌, ◌≤◌, Bool, true, false, List, [], ◌∷◌, ◌++◌, slice_set}
 use Rattle.task_syntax.specs.Places.{Each}
 use Rattle.record_core.specs.Sums.{total, without}
 use Rattle.record_core.specs.Counting.{At, Has, one_if, passing, times, dropped}
@@ -57,3 +57,7 @@ PassingOne X = (q : X → Bool) (l : List X) (j k : ℕ) (x y : X) → passing q
 -- a number is a member exactly where it occurs
 abbrev pub TimesSome : Type 0
 TimesSome = (n : ℕ) (l : List ℕ) → (1 ≤ times n l) ↔ Has n l
+
+-- it is counted as often as it stands there
+abbrev pub TimesEach : Type 0
+TimesEach = (n m : ℕ) (l : List ℕ) → (times n [] ≡ 0) × (times n (m ∷ l) ≡ one_if (m == n) + times n l)

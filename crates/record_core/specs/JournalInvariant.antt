@@ -7,9 +7,8 @@ use Rattle.record_core.specs.declared.rows.TaskRow.{TaskRow}
 abbrev pub journal_of : List ActivationRow → List TaskRow → ℕ → ℕ → JournalState
 journal_of rows tasks stamps limit = record { rows = rows; tasks = tasks; stamps = stamps; limit = limit }
 
--- each list has memory for as many members as the limit says
-pub record HasRoom (j : JournalState) (rows tasks : ℕ) : Type 0 where
+-- there is memory for as many rows as the limit says
+pub record HasRoom (j : JournalState) (rows : ℕ) : Type 0 where
   pub journal : IsJournal j
   pub few : j.limit ≤ 4000000
   pub rows_fit : j.limit ≤ rows
-  pub tasks_fit : j.limit ≤ tasks

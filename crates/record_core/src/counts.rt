@@ -1,4 +1,4 @@
-ghost use Rattle.record_core.specs.CountLaws.{DroppedFirst, DroppedNone, DroppedOne, TotalDropped, PassingCons, PassingSnoc, PassingDropped, PassingKept, PassingSet, PassingSome, PassingOne, TimesSome};
+ghost use Rattle.record_core.specs.CountLaws.{DroppedFirst, DroppedNone, DroppedOne, TotalDropped, PassingCons, PassingSnoc, PassingDropped, PassingKept, PassingSet, PassingSome, PassingOne, TimesSome, TimesEach};
 
 /// What a list is without the first member that passes a test, and what its sum is then.
 pub fn first_dropped<T>()
@@ -22,4 +22,5 @@ pub fn counts_tell<T>()
     ensures some { PassingSome T }
     ensures one { PassingOne T }
     ensures times { TimesSome }
+    ensures each { TimesEach }
 {}

@@ -2,7 +2,7 @@ ghost use Rattle.std.specs.Prelude.{◌≡◌, ◌↔◌, ℕ, ◌<◌, ◌≤�
 ghost use Rattle.record_core.specs.Numbers.{by_number, HasTask};
 ghost use Rattle.record_core.specs.Journal.{JournalState, empty_journal, next_number, with_accepted, with_begun, with_finished, IsJournal, IsUnderWay, MayBegin, MayCause};
 
-use crate::packed::{PackedActivation, PackedTask};
+use crate::packed::PackedRow;
 use crate::rows::{ActivationRow, Cause, TaskRow};
 use std::alloc::Global;
 use std::marker::Model;
@@ -12,27 +12,27 @@ use task_syntax::Memory;
 /// tasks were cut.
 #[derive(Drop)]
 pub struct PlainJournal {
-    rows: Vec<PackedActivation>,
-    tasks: Vec<PackedTask>,
+    rows: Vec<PackedRow>,
     stamps: u64,
     limit: u64,
 }
 
 impl Model for PlainJournal {
     ghost use Rattle.record_core.specs.Journal.{JournalState};
-    ghost use Rattle.record_core.specs.JournalInvariant.{journal_of, HasRoom};
+    ghost use Rattle.record_core.specs.JournalInvariant.{HasRoom};
+    ghost use Rattle.record_core.specs.Packed.{journal_in};
     ghost use Rattle.std.specs.Prelude.{vec_capacity};
 
     ghost Value = { JournalState };
 
-    ghost view = { λ j. journal_of j.rows.items j.tasks.items j.stamps j.limit };
+    ghost view = { λ j. journal_in j.rows.items j.stamps j.limit };
 
-    ghost invariant = { λ j. HasRoom (journal_of j.rows.items j.tasks.items j.stamps j.limit)
-        (vec_capacity j.rows) (vec_capacity j.tasks) };
+    ghost invariant = { λ j. HasRoom (journal_in j.rows.items j.stamps j.limit)
+        (vec_capacity j.rows) };
 }
 
 impl PlainJournal {
-    /// An empty journal with memory for 1 to 4,000,000 activations, 24 bytes for each. No later call takes memory.
+    /// An empty journal with memory for 1 to 4,000,000 activations, 20 bytes for each. No later call takes memory.
     pub fn new(alloc: Global, limit: u64) -> Result<PlainJournal, Memory>
         requires some { 1 ≤ limit }
         requires few { limit ≤ 4000000 }
@@ -40,10 +40,8 @@ impl PlainJournal {
         ensures kept { IfOk result (λ made. IsJournal made) }
     {
         let rows = Vec::with_capacity(alloc, limit as usize)?;
-        let tasks = Vec::with_capacity(alloc, limit as usize)?;
         Ok(PlainJournal {
             rows,
-            tasks,
             stamps: 0,
             limit,
         })
@@ -65,8 +63,7 @@ impl PlainJournal {
         }
         let number = self.rows.len() as u32 + 1;
         let task = task.unwrap_or(number);
-        let _fits = self.rows.push(PackedActivation::new(task, after));
-        let _fits = self.tasks.push(PackedTask::new());
+        let _fits = self.rows.push(PackedRow::new(task, after));
         Some(number)
     }
 
@@ -89,7 +86,8 @@ impl PlainJournal {
         ensures kept { IsJournal self.new }
     {
         self.stamps += 1;
-        self.tasks[task as usize - 1] = PackedTask::finished(self.stamps, cause);
+        let row = &mut self.rows[task as usize - 1];
+        row.finish(self.stamps, cause);
     }
 
     /// Does nothing. Call it for the invariant of a journal that was handed in.
@@ -112,7 +110,7 @@ impl PlainJournal {
         requires within { number ≤ length self.now.rows }
         ensures { by_number self.now.rows number ≡ Some result }
     {
-        self.rows[number as usize - 1].row()
+        self.rows[number as usize - 1].activation()
     }
 
     /// A task, by the number of its first activation.
@@ -120,6 +118,6 @@ impl PlainJournal {
         requires { HasTask self.now.rows number }
         ensures { by_number self.now.tasks number ≡ Some result }
     {
-        self.tasks[number as usize - 1].row()
+        self.rows[number as usize - 1].task()
     }
 }

@@ -1,3 +1,4 @@
+use Rattle.std.proofs.Common.{refl}
 use Rattle.record_core.proofs.CountFacts.{passing-some, passing-one, times-some}
 use Rattle.record_core.proofs.counts.counts_tell.Goals as goal
 
@@ -9,3 +10,6 @@ returns-clause-one g c = passing-one
 
 pub returns-clause-times : goal.returns-clause-times
 returns-clause-times g c = times-some
+
+pub returns-clause-each : goal.returns-clause-each
+returns-clause-each g c = λ n m l. (refl, refl)

@@ -4,7 +4,7 @@ use Rattle.pool_core.specs.Blocks.{BlockState}
 use Rattle.pool_core.specs.Pool.{with_superblock}
 use Rattle.pool_core.proofs.Giving.{ready_seen, IsSound-given}
 use Rattle.pool_core.proofs.Units.{block_ends, unit_fits, shifted}
-use Rattle.pool_core.proofs.VacancyFacts.{vacancies_given}
+use Rattle.pool_core.proofs.VacancyFacts.{change_given}
 use Rattle.pool_core.proofs.plain_pool.PlainPool.give.Goals as goal
 
 pub give-bit-requires-clause-counted : goal.give-bit-requires-clause-counted
@@ -27,13 +27,13 @@ give-bit-requires-clause-below c =
     let ready = ready_seen c.args.class c.args.superblock c.self.view_is c.self.invariant.0 c.requires.class c.requires.chosen c.index_mut-state.ensures.value in
     omega (arith, ready.below, c.cap-room.ensures.quotient)
 
-pub note-requires-clause-superblock : goal.note-requires-clause-superblock
-note-requires-clause-superblock c =
+pub note_change-requires-clause-superblock : goal.note_change-requires-clause-superblock
+note_change-requires-clause-superblock c =
     let ready = ready_seen c.args.class c.args.superblock c.self.view_is c.self.invariant.0 c.requires.class c.requires.chosen c.index_mut-state.ensures.value in
     ready.within
 
-pub note-requires-clause-was : goal.note-requires-clause-was
-note-requires-clause-was c =
+pub note_change-requires-clause-was : goal.note_change-requires-clause-was
+note_change-requires-clause-was c =
     let ready = ready_seen c.args.class c.args.superblock c.self.view_is c.self.invariant.0 c.requires.class c.requires.chosen c.index_mut-state.ensures.value in
     omega (arith, ready.kept.class_fits, c.class-was.ensures)
 
@@ -56,10 +56,10 @@ invariant_of-self c =
           (IsSound-given (record { units = c.self.inside.geometry.units; superblocks = c.self.inside.superblocks.items }) c.args.class c.args.superblock c.give-bit.result
           c.index_mut-state.result.now c.self.invariant.0 c.requires.class ready c.give-bit.ensures.lowest
           (subst (λ n. c.give-bit.result < n) c.cap-room.ensures.quotient c.give-bit.ensures.inside)),
-      rw c.note.ensures
-          (vacancies_given c.self.inside.geometry.units c.args.superblock c.args.class c.class-was.result c.give-bit.result c.cap-room.result
-          c.self.inside.superblocks.items c.self.inside.vacancies c.index_mut-state.result.now c.give-bit.new.self c.has_room-has_room.result
-          c.self.invariant.1 c.self.invariant.0 c.requires.class ready c.class-was.ensures c.cap-room.ensures.quotient c.give-bit.ensures.after c.has_room-has_room.ensures),
+      rw c.note_change.ensures
+          (change_given c.self.inside.geometry.units c.args.superblock c.args.class c.class-was.result c.give-bit.result c.cap-room.result
+          c.self.inside.superblocks.items c.self.inside.vacancies c.index_mut-state.result.now c.give-bit.new.self c.has_room-has_room.result c.is_empty-was_empty.result
+          c.self.invariant.1 c.self.invariant.0 c.requires.class ready c.class-was.ensures c.cap-room.ensures.quotient c.give-bit.ensures.after c.has_room-has_room.ensures c.is_empty-was_empty.ensures),
       c.self.invariant.2,
     )
 

@@ -1,11 +1,11 @@
-use Rattle.std.proofs.Common.{◌≡◌, refl, sym, ◌∙◌, ap, arith}
+use Rattle.std.proofs.Common.{◌≡◌, ◌↔◌, true, refl, sym, subst, ◌∙◌, ap, arith}
 use Rattle.std.proofs.lemmas.Option.{slice_get_within}
 use Rattle.pool_core.specs.Pool.{PoolState}
 use Rattle.pool_core.specs.Blocks.{BlockState}
-use Rattle.pool_core.specs.Superblocks.{taken_back}
+use Rattle.pool_core.specs.Superblocks.{HasRoom, taken_back}
 use Rattle.pool_core.proofs.Out.{Removes-taken_back}
 use Rattle.pool_core.proofs.Taking.{out_seen, found_seen, place_of, bit_of, IsSound-taken_back}
-use Rattle.pool_core.proofs.VacancyFacts.{vacancies_taken_back}
+use Rattle.pool_core.proofs.VacancyFacts.{change_taken_back}
 use Rattle.pool_core.proofs.plain_pool.PlainPool.release.Goals as goal
 
 pub take_back-requires-clause-counted : goal.take_back-requires-clause-counted
@@ -20,20 +20,26 @@ take_back-requires-clause-out c =
     let at = found_seen c.requires c.self.view_is c.self.invariant.0 c.unit.ensures c.class-class.ensures c.parted-place.ensures.superblock c.parted-place.ensures.within c.index_mut-superblock.ensures.value in
     rw (at.now_is, at.bit_is) out.is_set
 
-pub note-requires-clause-superblock : goal.note-requires-clause-superblock
-note-requires-clause-superblock c =
+pub note_change-requires-clause-superblock : goal.note_change-requires-clause-superblock
+note_change-requires-clause-superblock c =
     let out = out_seen c.requires c.self.view_is in
     let at = found_seen c.requires c.self.view_is c.self.invariant.0 c.unit.ensures c.class-class.ensures c.parted-place.ensures.superblock c.parted-place.ensures.within c.index_mut-superblock.ensures.value in
     omega (arith, at.place_is, slice_get_within c.self.inside.superblocks.items c.requires.place c.requires.superblock out.there, c.self.invariant.0.few)
 
-pub note-requires-clause-was : goal.note-requires-clause-was
-note-requires-clause-was c =
+pub cap-room-requires : goal.cap-room-requires
+cap-room-requires c =
     let out = out_seen c.requires c.self.view_is in
     let class : c.class-class.result ≡ c.requires.superblock.class = c.class-class.ensures ∙ ap (λ (b : BlockState). b.class) out.block_is in
     omega (arith, class, (c.self.invariant.0.kept c.requires.place c.requires.superblock out.there).class_fits)
 
-pub note-requires-clause-class : goal.note-requires-clause-class
-note-requires-clause-class c =
+pub note_change-requires-clause-was : goal.note_change-requires-clause-was
+note_change-requires-clause-was c =
+    let out = out_seen c.requires c.self.view_is in
+    let class : c.class-class.result ≡ c.requires.superblock.class = c.class-class.ensures ∙ ap (λ (b : BlockState). b.class) out.block_is in
+    omega (arith, class, (c.self.invariant.0.kept c.requires.place c.requires.superblock out.there).class_fits)
+
+pub note_change-requires-clause-class : goal.note_change-requires-clause-class
+note_change-requires-clause-class c =
     let out = out_seen c.requires c.self.view_is in
     let class : c.class-class.result ≡ c.requires.superblock.class = c.class-class.ensures ∙ ap (λ (b : BlockState). b.class) out.block_is in
     omega (arith, class, (c.self.invariant.0.kept c.requires.place c.requires.superblock out.there).class_fits)
@@ -45,10 +51,11 @@ invariant_of-self c =
     let after : c.take_back.new.self ≡ taken_back c.requires.superblock c.requires.bit = rw (c.take_back.ensures, at.now_is, at.bit_is) refl in (
       rw (at.place_is, after)
           (IsSound-taken_back (record { units = c.self.inside.geometry.units; superblocks = c.self.inside.superblocks.items }) c.args.block c.requires.place c.requires.bit c.requires.superblock c.self.invariant.0 out),
-      rw (c.note.ensures, at.place_is)
-          (vacancies_taken_back c.self.inside.geometry.units c.requires.place c.class-class.result c.requires.bit c.self.inside.superblocks.items c.self.inside.vacancies
-          c.requires.superblock c.take_back.new.self c.is_empty-is_empty.result c.self.invariant.1 c.self.invariant.0 out.there out.is_set
-          (c.class-class.ensures ∙ ap (λ (b : BlockState). b.class) out.block_is) after c.is_empty-is_empty.ensures),
+      rw (c.note_change.ensures, at.place_is)
+          (change_taken_back c.self.inside.geometry.units c.requires.place c.class-class.result c.requires.bit c.cap-room.result c.self.inside.superblocks.items c.self.inside.vacancies
+          c.requires.superblock c.take_back.new.self c.is_empty-is_empty.result c.has_room-had_room.result c.self.invariant.1 c.self.invariant.0 out.there out.is_set
+          (c.class-class.ensures ∙ ap (λ (b : BlockState). b.class) out.block_is) c.cap-room.ensures.quotient after c.is_empty-is_empty.ensures
+          (subst (λ s. (c.has_room-had_room.result ≡ true) ↔ HasRoom c.class-class.result c.cap-room.result s) at.now_is c.has_room-had_room.ensures)),
       c.self.invariant.2,
     )
 

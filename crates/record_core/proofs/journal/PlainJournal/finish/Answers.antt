@@ -1,37 +1,45 @@
-use Rattle.std.proofs.Common.{◌∙◌, ◌+◌, ◌-◌, ◌≤◌, length, ap, arith}
-use Rattle.std.specs.Prelude.{slice_set}
-use Rattle.record_core.specs.Journal.{JournalState}
-use Rattle.record_core.specs.JournalInvariant.{journal_of}
-use Rattle.record_core.specs.declared.rows.TaskRow.{TaskRow}
+use Rattle.std.proofs.Common.{◌∙◌, ◌≤◌, length, ap, arith}
+use Rattle.record_core.specs.Journal.{JournalState, with_finished}
+use Rattle.record_core.specs.Packed.{journal_in}
 use Rattle.record_core.specs.declared.journal.PlainJournal.TheInside.{Inside}
-use Rattle.record_core.proofs.JournalCode.{stamps_fit, finished_by, finished_number, room-finished}
+use Rattle.record_core.proofs.JournalCode.{stamps_fit, finished_number, room-finished}
+use Rattle.record_core.proofs.PackedFacts.{tasks-length, finished_packed, cause_fits}
 use Rattle.record_core.proofs.journal.PlainJournal.finish.Goals as goal
 
 abbrev state : Inside → JournalState
-state inside = journal_of inside.rows.items inside.tasks.items inside.stamps inside.limit
+state inside = journal_in inside.rows.items inside.stamps inside.limit
 
 pub overflow_add-self : goal.overflow_add-self
 overflow_add-self c =
-    let few : c.self.inside.stamps ≤ 8000000 = stamps_fit (state c.self.inside) c.self.inside.rows.cap c.self.inside.tasks.cap c.self.invariant in omega arith
+    let few : c.self.inside.stamps ≤ 8000000 = stamps_fit (state c.self.inside) c.self.inside.rows.cap c.self.invariant in omega arith
 
-pub finished-requires-clause-few : goal.finished-requires-clause-few
-finished-requires-clause-few c =
-    let few : c.self.inside.stamps ≤ 8000000 = stamps_fit (state c.self.inside) c.self.inside.rows.cap c.self.inside.tasks.cap c.self.invariant in omega arith
+pub finish-requires-clause-few : goal.finish-requires-clause-few
+finish-requires-clause-few c =
+    let few : c.self.inside.stamps ≤ 8000000 = stamps_fit (state c.self.inside) c.self.inside.rows.cap c.self.invariant in omega arith
 
-pub index_mut-requires : goal.index_mut-requires
-index_mut-requires c =
-    let few : (1 ≤ c.args.task) × (c.args.task ≤ length c.self.inside.tasks.items)
+pub finish-requires-clause-cause : goal.finish-requires-clause-cause
+finish-requires-clause-cause c = cause_fits (state c.self.inside) c.args.self.now c.self.inside.rows.cap c.args.cause c.self.view_is c.self.invariant c.requires.cause
+
+pub index_mut-row-requires : goal.index_mut-row-requires
+index_mut-row-requires c =
+    let few : (1 ≤ c.args.task) × (c.args.task ≤ length (state c.self.inside).tasks)
     = finished_number (state c.self.inside) c.args.self.now c.args.task c.self.view_is c.self.invariant.journal c.requires.under_way in
-    omega (arith, few.0, few.1, c.self.inside.tasks.ok.0)
+    omega (arith, few.0, few.1, tasks-length c.self.inside.rows.items, c.self.inside.rows.ok.0)
 
 pub invariant_of-self : goal.invariant_of-self
 invariant_of-self c =
-    let few : (1 ≤ c.args.task) × (c.args.task ≤ length c.self.inside.tasks.items)
+    let few : (1 ≤ c.args.task) × (c.args.task ≤ length (state c.self.inside).tasks)
     = finished_number (state c.self.inside) c.args.self.now c.args.task c.self.view_is c.self.invariant.journal c.requires.under_way in
-    room-finished (state c.self.inside) c.args.self.now _ c.args.task c.args.cause c.self.inside.rows.cap c.self.inside.tasks.cap c.self.view_is c.self.invariant
+    room-finished (state c.self.inside) c.args.self.now _ c.args.task c.args.cause c.self.inside.rows.cap c.self.view_is c.self.invariant
     c.requires.under_way c.requires.cause
-    (ap (λ (t : TaskRow). journal_of c.self.inside.rows.items (slice_set c.self.inside.tasks.items (c.args.task - 1) t) (c.self.inside.stamps + 1) c.self.inside.limit) c.finished.ensures
-    ∙ finished_by (state c.self.inside) c.args.task c.args.cause few.0)
+    (finished_packed c.self.inside.rows.items c.self.inside.stamps c.self.inside.limit c.args.task c.args.cause c.index_mut-row.result.now c.finish.new.self few.0 c.index_mut-row.ensures.value c.finish.ensures)
 
 pub returns-clause-kept : goal.returns-clause-kept
 returns-clause-kept c = (invariant_of-self c).journal
+
+pub returns-clause-finished : goal.returns-clause-finished
+returns-clause-finished c =
+    let few : (1 ≤ c.args.task) × (c.args.task ≤ length (state c.self.inside).tasks)
+    = finished_number (state c.self.inside) c.args.self.now c.args.task c.self.view_is c.self.invariant.journal c.requires.under_way in
+    finished_packed c.self.inside.rows.items c.self.inside.stamps c.self.inside.limit c.args.task c.args.cause c.index_mut-row.result.now c.finish.new.self few.0 c.index_mut-row.ensures.value c.finish.ensures
+    ∙ ap (λ (j : JournalState). with_finished j c.args.task c.args.cause) c.self.view_is
