@@ -15,6 +15,15 @@ fn fault_of(alloc: Global, bytes: &[u8]) -> Result<Option<Place>, AllocError> {
     }
 }
 
+/// The columns of a file, or none where it has a fault.
+fn columns_of(alloc: Global, bytes: &[u8]) -> Result<Option<Columns>, AllocError> {
+    match read_columns(alloc, bytes) {
+        Ok(columns) => Ok(Some(columns)),
+        Err(ColumnError::Fault { .. }) => Ok(None),
+        Err(ColumnError::Memory) => Err(AllocError),
+    }
+}
+
 const FILES: [(&[u8], Option<Place>); 33] = [
     // no record at all
     (b"", Some((1, 0, 0))),
@@ -82,33 +91,25 @@ fn cells_under<'a>(columns: &'a Columns, place: usize, name: &[u8]) -> Option<&'
 #[test]
 fn names_and_cells_are_those_of_the_file(rt: HostRuntime) -> Result<(), Fail> {
     let bytes = b"\xef\xbb\xbf\"x\"\"y\",\"b,\nc\"\r\n\r\n1,\"02\"\n\n3,18446744073709551615";
-    match read_columns(rt.alloc(), bytes) {
-        Ok(columns) => {
-            assert_eq!(rt; columns.names.len(), 2);
-            assert_eq!(rt; columns.cells.len(), 2);
-            assert_eq!(rt;
-                cells_under(&columns, 0, b"x\"y").ok_or("x\"y")?,
-                [1, 3].as_slice()
-            );
-            assert_eq!(rt;
-                cells_under(&columns, 1, b"b,\nc").ok_or("b,c")?,
-                [2, u64::MAX].as_slice()
-            );
-        }
-        Err(_) => assert!(rt; false),
-    }
+    let columns = columns_of(rt.alloc(), bytes)?.ok_or("no columns")?;
+    assert_eq!(rt; columns.names.len(), 2);
+    assert_eq!(rt; columns.cells.len(), 2);
+    assert_eq!(rt;
+        cells_under(&columns, 0, b"x\"y").ok_or("x\"y")?,
+        [1, 3].as_slice()
+    );
+    assert_eq!(rt;
+        cells_under(&columns, 1, b"b,\nc").ok_or("b,c")?,
+        [2, u64::MAX].as_slice()
+    );
     Ok(())
 }
 
 #[test]
 fn header_alone_has_empty_columns(rt: HostRuntime) -> Result<(), Fail> {
-    match read_columns(rt.alloc(), b"a,b") {
-        Ok(columns) => {
-            assert_eq!(rt; cells_under(&columns, 0, b"a").ok_or("a")?.len(), 0);
-            assert_eq!(rt; cells_under(&columns, 1, b"b").ok_or("b")?.len(), 0);
-        }
-        Err(_) => assert!(rt; false),
-    }
+    let columns = columns_of(rt.alloc(), b"a,b")?.ok_or("no columns")?;
+    assert_eq!(rt; cells_under(&columns, 0, b"a").ok_or("a")?.len(), 0);
+    assert_eq!(rt; cells_under(&columns, 1, b"b").ok_or("b")?.len(), 0);
     Ok(())
 }
 
@@ -125,12 +126,8 @@ fn long_file(alloc: Global, rows: u32) -> Result<Vec<u8>, AllocError> {
 #[test]
 fn rows_end_at_a_million(rt: HostRuntime) -> Result<(), Fail> {
     let mut bytes = long_file(rt.alloc(), 1_000_000)?;
-    match read_columns(rt.alloc(), bytes.as_slice()) {
-        Ok(columns) => {
-            assert_eq!(rt; cells_under(&columns, 0, b"a").ok_or("a")?.len(), 1_000_000);
-        }
-        Err(_) => assert!(rt; false),
-    }
+    let columns = columns_of(rt.alloc(), bytes.as_slice())?.ok_or("no columns")?;
+    assert_eq!(rt; cells_under(&columns, 0, b"a").ok_or("a")?.len(), 1_000_000);
     bytes.extend_from_slice(b"1,x")?;
     assert_eq!(rt;
         fault_of(rt.alloc(), bytes.as_slice())?,

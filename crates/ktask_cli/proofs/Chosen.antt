@@ -1,5 +1,5 @@
 -- What is done for words, from what comes of them.
-use Rattle.std.proofs.Common.{◌≡◌, inl, inr, Option, Some, None, Result, Ok, Err, refl, sym, subst}
+use Rattle.std.proofs.Common.{inl, inr, Option, Some, None, Result, Ok, Err, refl, sym, subst}
 use Rattle.tool_io.specs.Seen.{ShelfSeen}
 use Rattle.tool_words.specs.Choice.{Choice, Run, Bench, Plain, Check, Print, Help, GivesOrWants}
 use Rattle.tool_words.specs.declared.words_error.WordsError.{WordsError}

@@ -23,7 +23,7 @@ use Rattle.ktask_cli.specs.Order.{IsRunOf, bench_order, bench_plan, order_of, or
 use Rattle.ktask_cli.specs.RunStatus.{status_of_ends, IsStatusOf}
 use Rattle.tool_io.specs.Seen.{ShelfSeen, SinkSeen, Holds}
 use Rattle.ktask_cli.specs.Io.{Fetches}
-use Rattle.ktask_cli.specs.Statuses.{Command, Run, Check, Print, Asked, asked_by, Suits, SuitsText, HasColumns, IsFetched, IsRefused, IsOrWants, TwoForWords, FiveForText, SixForColumns, IsLong, SevenForFetch, EightForOut, ZeroForPrinted, HoldsColumns, RunForSuited, QuietWhereRefused, SilentWhereDone, IsOfRunAlone, IsDone, IsRun, IsAnswered, RunsAtStatus, ToldBy, EndsByStatus, DoneUnasked, StatusHasCause}
+use Rattle.ktask_cli.specs.Statuses.{Command, Run, Check, Print, asked_by, Suits, SuitsText, HasColumns, IsFetched, IsRefused, IsOrWants, TwoForWords, FiveForText, SixForColumns, IsLong, SevenForFetch, EightForOut, ZeroForPrinted, HoldsColumns, RunForSuited, QuietWhereRefused, SilentWhereDone, IsOfRunAlone, IsDone, IsAnswered, RunsAtStatus, ToldBy, EndsByStatus, DoneUnasked, StatusHasCause}
 use Rattle.ktask_cli.specs.Stop.{status_of, longest_file, named_for}
 use Rattle.ktask_cli.proofs.Causes.{Took, Cause, wants, unfetched, unsuited, Keeps, ColumnsCause, columns_want, columns_unfetched, columns_refused, Had, TookInput, run_took, RunCause, in_program, in_columns, run_stopped, TookOne, check_took, check_stopped, print_took, print_stopped}
 use Rattle.ktask_cli.proofs.Offered.{writes_as}

@@ -8,6 +8,7 @@ use Rattle.task_syntax.specs.declared.columns.Columns.{Columns}
 use Rattle.task_syntax.specs.declared.program.Program.{Program}
 use Rattle.record_core.specs.EndSeen.{EndSeen, RunPlan}
 use Rattle.record_core.specs.EndSound.{EndSound, EndComplete}
+use Rattle.record_core.specs.EndCounts.{EndCounts}
 use Rattle.record_core.specs.EndFaithful.{EndFaithful}
 use Rattle.run_model.specs.End.{EndsAs}
 use Rattle.run_report.specs.Lines.{text_of}
@@ -46,13 +47,15 @@ bench_order bench = record {
   head = bench_line bench;
 }
 
--- the program is well formed; the end is sound and faithful, it is that of the run on one thread, and it is complete where the meaning has counts within the plan
+-- the program is well formed; the end is sound and faithful, it is that of the run on one thread, it is complete where the
+-- meaning has counts within the plan, and it counts as the meaning does wherever nothing was refused
 pub record IsRunOf (o : Order) (e : EndSeen) : Type 0 where
   pub formed : IsWellFormed o.program
   pub sound : EndSound o.program o.columns o.plan e
   pub faithful : EndFaithful o.program e
   pub answers : EndsAs o.program o.columns o.plan e
   pub complete : EndComplete o.program o.columns o.plan e
+  pub counts : EndCounts o.program o.columns e
 
 -- what is written of an end
 abbrev pub order_text : Order → EndSeen → List ℕ

@@ -2,7 +2,7 @@ use std::alloc::{AllocError, Global};
 use std::process::Abort;
 use std::test::Fail;
 use task_check::{CheckError, check};
-use task_reader::read_program;
+use task_reader::{ReadError, read_program};
 
 /// What stands before the lines that a row tries: its lines are numbered from 15.
 const FRONT: &str = "ktask 1\nkind leaf n\nstate start\ndone n\nend\n\
@@ -24,8 +24,10 @@ fn gets(
     text.push_str(front)?;
     text.push_str(rest)?;
     assert!(rt; text.len() < 10000);
-    let Ok(program) = read_program(alloc, text.as_bytes()) else {
-        return Ok(false);
+    let program = match read_program(alloc, text.as_bytes()) {
+        Ok(program) => program,
+        Err(ReadError::Memory) => return Err(AllocError),
+        Err(ReadError::Fault { .. }) => return Ok(false),
     };
     match check(alloc, program) {
         Ok(_) => Ok(verdict.is_none()),

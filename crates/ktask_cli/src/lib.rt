@@ -21,6 +21,8 @@ pub mod stop;
 mod tests;
 mod tool;
 #[cfg(test)]
+mod tool_samples;
+#[cfg(test)]
 mod tool_tests;
 mod write_text;
 

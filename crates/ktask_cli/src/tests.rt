@@ -24,6 +24,7 @@ fn a_file_has_at_most_sixteen_mebibytes(rt: HostRuntime) -> Result<(), Fail> {
         let mut shelf = MemoryShelf::new(names, Vec::new(rt.alloc()));
         match fetch_file(rt.alloc(), &mut shelf, InputFile::Program, "x.kt") {
             Ok(content) => assert!(rt; is_read && content.len() as u64 == len),
+            Err(Stop::WantOfMemory) => return Err(AllocError.into()),
             Err(stop) => assert!(rt; !is_read && matches!(stop, Stop::TooLong(InputFile::Program))),
         }
     }
@@ -34,7 +35,11 @@ fn a_file_has_at_most_sixteen_mebibytes(rt: HostRuntime) -> Result<(), Fail> {
 fn told(rt: &HostRuntime, stop: Stop, room: u64) -> Result<(u8, MemorySink), AllocError> {
     match MemorySink::new(rt.alloc(), room, Vec::new(rt.alloc())) {
         Ok(mut err) => {
+            let is_told = matches!(stop, Stop::WantOfMemory);
             let status = refuse(rt.alloc(), stop, "x.kt", &mut err);
+            if status == 9 && !is_told {
+                return Err(AllocError);
+            }
             Ok((status, err))
         }
         Err(_) => Err(AllocError),

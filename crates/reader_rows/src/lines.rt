@@ -1,8 +1,12 @@
+use crate::tables::{
+    FAULTS_IN_A_KIND, FAULTS_OF_INSTRUCTIONS, FAULTS_OF_TEXTS, FAULTS_OUTSIDE, LineFault,
+    ONE_LINE_OF_EACH_SORT, TEXTS_AT_LIMITS,
+};
 use std::alloc::{AllocError, Global};
 use std::process::Abort;
 use std::test::Fail;
 use task_lines::{Item, RootTerm, Step, Term, What, items_of};
-use task_syntax::{MathOp, Name, Priority, Relation};
+use task_syntax::{List, MathOp, Name, Priority, Relation};
 use task_text::{Cause, Fault, TextError};
 
 /// The first fault of a text, or no fault, or want of memory.
@@ -32,42 +36,7 @@ fn fault_between(
 
 #[test]
 fn faults_stand_at_their_line_and_word(rt: HostRuntime) -> Result<(), Fail> {
-    let table: [(&[u8], Cause, u32, u32); 18] = [
-        (b"", Cause::NoHeader, 1, 0),
-        (b"\n# x\n", Cause::NoHeader, 1, 0),
-        (b"\nktask", Cause::NoHeader, 2, 2),
-        (b"ktask 01", Cause::NoHeader, 1, 2),
-        (b"kind k\nktask 1", Cause::NoHeader, 1, 1),
-        (b"Ktask \x80", Cause::NotText, 1, 2),
-        (b"ktask 1 x", Cause::WordsLeft, 1, 3),
-        (b"ktask 1\nend", Cause::UnknownWord, 2, 1),
-        (b"ktask 1\nkind k\nvar x\nkind j", Cause::UnknownWord, 4, 1),
-        (b"ktask 1\nkind k\n\n# end\n", Cause::NoEnd, 4, 0),
-        (b"ktask 1\nkind k\nstate s\n# end\n\n", Cause::NoEnd, 5, 0),
-        (b"ktask 1\nkind k\nstate s\nstate t", Cause::NoEnd, 4, 0),
-        (
-            b"ktask 1\nkind k\nstate s\nstate t x",
-            Cause::UnknownWord,
-            4,
-            3,
-        ),
-        (b"ktask 1\nkind k\nstate s\ngoto l\nend", Cause::NoEnd, 5, 0),
-        (
-            b"ktask 1\nkind k\nstate s\ngoto l\nset x 1",
-            Cause::UnknownWord,
-            5,
-            1,
-        ),
-        (
-            b"ktask 1\nkind k\nstate s\ndone 0\nstate s",
-            Cause::TwiceNamed,
-            5,
-            2,
-        ),
-        (b"ktask 1\nkind k\nend\nkind k", Cause::NoEnd, 3, 0),
-        (b"ktask 1\nroot r k\nroot r k", Cause::TwiceNamed, 3, 2),
-    ];
-    for (text, cause, line, word) in &table {
+    for (text, cause, line, word) in &FAULTS_OF_TEXTS {
         let want = Fault {
             cause: *cause,
             line: *line,
@@ -78,61 +47,32 @@ fn faults_stand_at_their_line_and_word(rt: HostRuntime) -> Result<(), Fail> {
     Ok(())
 }
 
-#[test]
-fn faults_of_instructions_stand_at_their_word(rt: HostRuntime) -> Result<(), Fail> {
-    let table: [(&[u8], Cause, u32); 33] = [
-        (b"else", Cause::UnknownWord, 1),
-        (b"root r k", Cause::UnknownWord, 1),
-        (b"zet x\x7f", Cause::NotText, 2),
-        (b"set x -1", Cause::BadName, 3),
-        (b"set x 1x", Cause::BadNumber, 3),
-        (b"set 1x 1", Cause::BadName, 2),
-        (b"set abcdefghijklmnopqrstuvwxy 1", Cause::BadName, 2),
-        (b"add x 1", Cause::BadName, 4),
-        (b"cell x goto 1", Cause::BadName, 3),
-        (b"rows x", Cause::BadName, 3),
-        (b"get x @a @b", Cause::WordsLeft, 4),
-        (b"copy @a b", Cause::BadName, 3),
-        (b"drop a", Cause::BadName, 2),
-        (b"label top", Cause::TwiceNamed, 2),
-        (b"goto top", Cause::BackLabel, 2),
-        (b"goto 5", Cause::BadName, 2),
-        (b"if n", Cause::UnknownWord, 3),
-        (b"if n < 2 got x", Cause::UnknownWord, 5),
-        (b"if n < 2 goto top", Cause::BackLabel, 6),
-        (b"if n < 2 goto out 1", Cause::WordsLeft, 7),
-        (b"spawn @f k -1", Cause::UnknownWord, 4),
-        (b"spawn @f k 5x", Cause::BadNumber, 4),
-        (b"spawn @f k behind @p 5x", Cause::UnknownWord, 6),
-        (b"spawn @f k retry foo", Cause::WordsLeft, 5),
-        (
-            b"spawn @f k 1 2 3 4 5 6 7 8 9 10 11 12 13 14 15 16 17",
-            Cause::TooMany,
-            20,
-        ),
-        (
-            b"spawn @f k 1 2 3 4 5 6 7 8 9 10 11 12 13 14 15 16 1x",
-            Cause::BadNumber,
-            20,
-        ),
-        (b"all @g", Cause::BadName, 3),
-        (b"all @g @a x", Cause::UnknownWord, 4),
-        (b"all @g @a @b @c @d @e @f @g @h @i", Cause::TooMany, 11),
-        (b"again s behind 5", Cause::BadName, 4),
-        (b"again s foo", Cause::UnknownWord, 3),
-        (b"done 18446744073709551616", Cause::BadNumber, 2),
-        (b"done 0 1", Cause::WordsLeft, 3),
-    ];
-    let front = b"ktask 1\nkind k\nvar x @a\nstate s\nlabel top\n";
-    for (text, cause, word) in &table {
+/// Whether each line of the table, between two others, has its fault in line 6.
+fn have_their_faults(
+    rt: &impl Abort,
+    alloc: Global,
+    front: &[u8],
+    table: &[LineFault],
+    back: &[u8],
+) -> Result<bool, AllocError> {
+    for (text, cause, word) in table {
         let want = Fault {
             cause: *cause,
             line: 6,
             word: *word,
         };
-        let fault = fault_between(&rt, rt.alloc(), front, text, b"\ndone 0\nend")?;
-        assert_eq!(rt; fault, Some(want));
+        if fault_between(rt, alloc, front, text, back)? != Some(want) {
+            return Ok(false);
+        }
     }
+    Ok(true)
+}
+
+#[test]
+fn faults_of_instructions_stand_at_their_word(rt: HostRuntime) -> Result<(), Fail> {
+    let front = b"ktask 1\nkind k\nvar x @a\nstate s\nlabel top\n";
+    let table = &FAULTS_OF_INSTRUCTIONS;
+    assert!(rt; have_their_faults(&rt, rt.alloc(), front, table, b"\ndone 0\nend")?);
     Ok(())
 }
 
@@ -140,56 +80,8 @@ fn faults_of_instructions_stand_at_their_word(rt: HostRuntime) -> Result<(), Fai
 fn faults_of_kinds_states_and_roots_stand_at_their_word(rt: HostRuntime) -> Result<(), Fail> {
     let outside = b"ktask 1\nkind k n\nstate s\ndone 0\nend\n";
     let inside = b"ktask 1\nkind k n\nvar x\n\n\n";
-    let table: [(bool, &[u8], Cause, u32); 22] = [
-        (true, b"var x", Cause::UnknownWord, 1),
-        (true, b"kind k", Cause::TwiceNamed, 2),
-        (true, b"kind 5", Cause::BadName, 2),
-        (true, b"kind j a @a a", Cause::TwiceNamed, 5),
-        (true, b"kind j a @a 5", Cause::BadName, 5),
-        (
-            true,
-            b"kind j a b c d e f g h i j k l m n o p @q",
-            Cause::TooMany,
-            19,
-        ),
-        (true, b"root r", Cause::BadName, 3),
-        (true, b"root r k x", Cause::UnknownWord, 4),
-        (true, b"root r k 5x", Cause::BadNumber, 4),
-        (
-            true,
-            b"root r k 1 2 3 4 5 6 7 8 9 10 11 12 13 14 15 16 @q",
-            Cause::TooMany,
-            20,
-        ),
-        (true, b"root r k behind @b low 5", Cause::WordsLeft, 7),
-        (false, b"var", Cause::BadName, 2),
-        (false, b"var n", Cause::TwiceNamed, 2),
-        (false, b"var a 5", Cause::BadName, 3),
-        (false, b"end", Cause::NoEnd, 0),
-        (false, b"end x", Cause::WordsLeft, 2),
-        (false, b"state s holds", Cause::BadName, 4),
-        (false, b"state s holds @a foo", Cause::UnknownWord, 5),
-        (false, b"state s holds @a settled", Cause::BadName, 6),
-        (false, b"state s settled @a foo", Cause::BadName, 5),
-        (false, b"state s holds @a @a", Cause::TwiceNamed, 5),
-        (false, b"done 0", Cause::UnknownWord, 1),
-    ];
-    for (is_outside, text, cause, word) in &table {
-        let front = if *is_outside {
-            outside.as_slice()
-        } else {
-            inside.as_slice()
-        };
-        let want = Fault {
-            cause: *cause,
-            line: 6,
-            word: *word,
-        };
-        assert_eq!(rt;
-            fault_between(&rt, rt.alloc(), front, text, b"")?,
-            Some(want)
-        );
-    }
+    assert!(rt; have_their_faults(&rt, rt.alloc(), outside, &FAULTS_OUTSIDE, b"")?);
+    assert!(rt; have_their_faults(&rt, rt.alloc(), inside, &FAULTS_IN_A_KIND, b"")?);
     Ok(())
 }
 
@@ -210,54 +102,7 @@ fn add_lines(
 
 #[test]
 fn the_first_item_past_a_limit_is_at_fault(rt: HostRuntime) -> Result<(), Fail> {
-    let table: [(&[u8], u8, &[u8], &[u8], &[u8], Option<(u32, u32)>); 10] = [
-        (b"", 64, b"kind ", b"\nstate s\ndone 0\nend\n", b"", None),
-        (
-            b"",
-            64,
-            b"kind ",
-            b"\nstate s\ndone 0\nend\n",
-            b"kind 5",
-            Some((258, 1)),
-        ),
-        (b"", 16, b"root ", b" k\n", b"", None),
-        (b"", 16, b"root ", b" k\n", b"root 5 k", Some((18, 1))),
-        (b"kind k\n", 32, b"state ", b"\ndone 0\n", b"end", None),
-        (
-            b"kind k\n",
-            32,
-            b"state ",
-            b"\ndone 0\n",
-            b"state aa",
-            Some((67, 1)),
-        ),
-        (
-            b"kind k\nstate s\n",
-            63,
-            b"label ",
-            b"\n",
-            b"done 0\nend",
-            None,
-        ),
-        (
-            b"kind k\nstate s\n",
-            64,
-            b"label ",
-            b"\n",
-            b"label aa",
-            Some((68, 1)),
-        ),
-        (
-            b"kind k @x\nvar ",
-            254,
-            b"v",
-            b" ",
-            b"\nstate s\ndone 0\nend",
-            None,
-        ),
-        (b"kind k @x\nvar ", 254, b"v", b" ", b"w 5", Some((3, 256))),
-    ];
-    for (front, count, before, behind, last, want) in &table {
+    for (front, count, before, behind, last, want) in &TEXTS_AT_LIMITS {
         let mut text = Vec::new(rt.alloc());
         text.extend_from_slice(b"ktask 1\n")?;
         text.extend_from_slice(front)?;
@@ -273,19 +118,18 @@ fn is_called(name: &Name, bytes: &[u8]) -> bool {
     name.as_bytes() == bytes
 }
 
+/// The items of a text with a line of each sort, or none where it has a fault.
+fn items_of_each_sort(alloc: Global) -> Result<Option<List<Item>>, AllocError> {
+    match items_of(alloc, ONE_LINE_OF_EACH_SORT) {
+        Ok(items) => Ok(Some(items)),
+        Err(TextError::Fault(_)) => Ok(None),
+        Err(TextError::Memory) => Err(AllocError),
+    }
+}
+
 #[test]
-fn lines_are_read_to_their_items(rt: HostRuntime) -> Result<(), Fail> {
-    let text = b"\xef\xbb\xbfktask 1 # the first line\n
-kind k n @p\n  var x y\r\n var @a @x
-state s holds @p settled @p\n\tset x 18446744073709551615\n sub x n 7\n rem y x n
- if x <= 5 goto out\n cell y price x\n rows y price\n get y @p
- spawn @a j 1 x @p behind @p low retry\n all @x @a @a\n copy @x @a\n drop @a
- label out\n again t behind @x high\nstate t\n label out\n done y\nend
-root q j\nroot r k 5 @q behind @q low";
-    let items = match items_of(rt.alloc(), text) {
-        Ok(items) => items,
-        Err(_) => return Err(AllocError.into()),
-    };
+fn kinds_states_and_roots_are_read_to_their_items(rt: HostRuntime) -> Result<(), Fail> {
+    let items = items_of_each_sort(rt.alloc())?.ok_or("no items")?;
     assert_eq!(rt; items.len(), 23);
     assert!(rt;
         matches!(items.get(0), Some(Item { line: 3, what: What::Kind { name, arguments } })
@@ -295,6 +139,18 @@ root q j\nroot r k 5 @q behind @q low";
         matches!(items.get(3), Some(Item { line: 6, what: What::State { holds, settled, .. } })
         if holds.len() == 1 && settled.len() == 1)
     );
+    assert!(rt;
+        matches!(items.get(22), Some(Item { line: 25,
+        what: What::Root { arguments, behind: Some(_), priority: Priority::Low, .. } })
+        if matches!(arguments.get(0), Some(RootTerm::Number(5)))
+        && matches!(arguments.get(1), Some(RootTerm::Root(_))))
+    );
+    Ok(())
+}
+
+#[test]
+fn instructions_are_read_to_their_items(rt: HostRuntime) -> Result<(), Fail> {
+    let items = items_of_each_sort(rt.alloc())?.ok_or("no items")?;
     assert!(rt;
         matches!(
             items.get(4),
@@ -334,12 +190,6 @@ root q j\nroot r k 5 @q behind @q low";
         what: What::Step { step: Step::Spawn { arguments, behind: Some(behind),
         priority: Priority::Low, retry: true, .. } } })
         if arguments.len() == 3 && is_called(behind, b"p"))
-    );
-    assert!(rt;
-        matches!(items.get(22), Some(Item { line: 25,
-        what: What::Root { arguments, behind: Some(_), priority: Priority::Low, .. } })
-        if matches!(arguments.get(0), Some(RootTerm::Number(5)))
-        && matches!(arguments.get(1), Some(RootTerm::Root(_))))
     );
     Ok(())
 }

@@ -1,8 +1,8 @@
 use crate::given_end::GivenEnd;
 use crate::reportable::can_report;
-use crate::samples::{SAMPLES, Sample};
+use crate::samples::{CHAIN, SAMPLES, Sample};
 use kt_words::{Geometry, SuperWord};
-use record_core::{ActivationRow, TaskRow};
+use record_core::{ActivationRow, Cause, TaskRow};
 use run_report::{Failed, MemorySink, write_check, write_report};
 use std::alloc::{AllocError, Global};
 use std::test::Fail;
@@ -79,6 +79,21 @@ fn rows_of(alloc: Global, sample: &Sample) -> Result<Rows, AllocError> {
     })
 }
 
+fn row(task: u32, after: Option<u32>, start: u64) -> ActivationRow {
+    ActivationRow {
+        task,
+        after,
+        start: Some(start),
+    }
+}
+
+fn finished(finish: Option<u64>) -> TaskRow {
+    TaskRow {
+        finish,
+        cause: Cause::Clear,
+    }
+}
+
 /// The end of a sample, where its rows fit one another.
 fn end_of<'a>(sample: &Sample, rows: &'a Rows) -> Option<GivenEnd<'a>> {
     let superblocks = match rows.evidence.len() {
@@ -129,13 +144,17 @@ fn front_of(alloc: Global, pieces: &[&str], count: u64) -> Result<String, AllocE
 /// A sink, and how the call that wrote to it ended.
 type Written = (MemorySink, Result<(), Failed>);
 
-/// Writes the report of a sample to a sink that fails in this call; none where the sample is no end that can be reported.
-fn written(alloc: Global, sample: &Sample, call: u64) -> Result<Option<Written>, AllocError> {
+/// Writes the report of a sample with these rows to a sink that fails in this call; none where they are no end that can be reported.
+fn written_with(
+    alloc: Global,
+    sample: &Sample,
+    rows: &Rows,
+    call: u64,
+) -> Result<Option<Written>, AllocError> {
     let Some(checked) = program_of(alloc, sample.names)? else {
         return Ok(None);
     };
-    let rows = rows_of(alloc, sample)?;
-    let Some(end) = end_of(sample, &rows) else {
+    let Some(end) = end_of(sample, rows) else {
         return Ok(None);
     };
     if !can_report(&end, &checked) {
@@ -144,6 +163,12 @@ fn written(alloc: Global, sample: &Sample, call: u64) -> Result<Option<Written>,
     let mut out = sink_failing_at(alloc, call)?;
     let result = write_report(&end, &checked, sample.trace, &mut out);
     Ok(Some((out, result)))
+}
+
+/// The same with the rows of the sample.
+fn written(alloc: Global, sample: &Sample, call: u64) -> Result<Option<Written>, AllocError> {
+    let rows = rows_of(alloc, sample)?;
+    written_with(alloc, sample, &rows, call)
 }
 
 #[test]
@@ -157,6 +182,38 @@ fn reports_are_written_line_by_line(rt: HostRuntime) -> Result<(), Fail> {
         assert_eq!(rt; out.calls, calls);
         assert_eq!(rt; out.faults, 0);
     }
+    Ok(())
+}
+
+/// The rows of a task that a hundred times goes on behind a leaf that it spawned, and then behind none.
+fn chain_rows(alloc: Global) -> Result<Rows, AllocError> {
+    let (mut activations, mut tasks) = (Vec::new(alloc), Vec::new(alloc));
+    activations.push(row(1, None, 1))?;
+    tasks.push(finished(Some(402)))?;
+    for link in 0..100u32 {
+        let (leaf, stamp) = (2 + 3 * link, u64::from(2 + 4 * link));
+        activations.push(row(leaf, None, stamp))?;
+        activations.push(row(1, Some(leaf), stamp + 2))?;
+        activations.push(row(1, None, stamp + 3))?;
+        tasks.push(finished(Some(stamp + 1)))?;
+        tasks.push(finished(None))?;
+        tasks.push(finished(None))?;
+    }
+    Ok(Rows {
+        activations,
+        tasks,
+        evidence: Vec::new(alloc),
+    })
+}
+
+#[test]
+fn a_long_run_is_told_by_its_totals(rt: HostRuntime) -> Result<(), Fail> {
+    let rows = chain_rows(rt.alloc())?;
+    let whole = front_of(rt.alloc(), CHAIN.pieces, 5)?;
+    let (out, result) = written_with(rt.alloc(), &CHAIN, &rows, 0)?.ok_or("no report")?;
+    assert_eq!(rt; result, Ok(()));
+    assert_eq!(rt; out.bytes.as_slice(), whole.as_bytes());
+    assert_eq!(rt; out.calls, 5);
     Ok(())
 }
 

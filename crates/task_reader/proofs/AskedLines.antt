@@ -1,5 +1,5 @@
 -- Each line of the language is read as its entry in the table asks.
-use Rattle.task_reader.proofs.Vocabulary.{◌≡◌, ℕ, Bool, true, false, cond, Option, Some, None, List, [], ◌∷◌, ◌++◌, length, drop, Ok, Err, refl, sym, ◌∙◌, ap, subst, IsSome, nat_lt, is_some, codes, if◌then◌else◌, length-map, same_bytes, Variable, Priority, Regular, Cause, NoHeader, UnknownWord, BadName, BadNumber, TwiceNamed, TooMany, BackLabel, Fault, Word, is_missing, is_present, is_future, is_no_bad_number, Scan, seen, moved, fault_here, Outcome, Parser, and_then, pure, take_word, refuse, need, room, fixed, read_name, read_new_name, read_future, eat, each, one_or_more, What, Keyword, Place, Scope, opening, relation_of, priority_of, term_of, read_term, variable_of, read_variable, read_other_future, read_behind, priority_by, read_priority, last_priority_by, read_last_priority, read_retry, relation_by, read_relation, header_line, read_holds, read_settled, is_root_argument, root_term_of, read_root_argument, is_argument, passed_of, read_argument, read_member, Part, GotoWord, AName, ANewName, ATarget, ATerm, ARelation, AFuture, KindVariables, MoreVariables, Arguments, RootArguments, Members, HeldFutures, SettledFutures, Predecessor, APriority, LastPriority, ARetry, Values, names_of, read_part, read_parts, parts_of, line_of_parts, counted, begun, keyword_line, line_by, read_line, Test, Asked, End, One, Many, failed_by, this_word, a_name, a_future, new_name, an_operand, is_relation, is_priority, within, opens, a_variable, other_future, an_argument, a_member, at_least_one, where_word, behind_part, priority_part, last_priority_part, retry_part, holds_part, settled_part, header_asked, keyword_asked, opened_by, line_asked, part_asked, parts_asked}
+use Rattle.task_reader.proofs.Vocabulary.{◌≡◌, ℕ, Bool, true, false, cond, Option, Some, None, List, [], ◌∷◌, ◌++◌, drop, Ok, Err, refl, sym, ◌∙◌, ap, subst, IsSome, nat_lt, is_some, codes, if◌then◌else◌, length-map, same_bytes, Variable, Priority, Regular, Cause, NoHeader, UnknownWord, BadName, BadNumber, TwiceNamed, TooMany, BackLabel, Fault, Word, is_missing, is_present, is_future, is_no_bad_number, Scan, seen, moved, fault_here, Outcome, Parser, and_then, pure, take_word, refuse, need, room, fixed, read_name, read_new_name, read_future, eat, one_or_more, What, Keyword, Place, Scope, opening, relation_of, priority_of, term_of, read_term, variable_of, read_variable, read_other_future, read_behind, priority_by, read_priority, last_priority_by, read_last_priority, read_retry, relation_by, read_relation, header_line, read_holds, read_settled, is_root_argument, root_term_of, read_root_argument, is_argument, passed_of, read_argument, read_member, Part, GotoWord, AName, ANewName, ATarget, ATerm, ARelation, AFuture, KindVariables, MoreVariables, Arguments, RootArguments, Members, HeldFutures, SettledFutures, Predecessor, APriority, LastPriority, ARetry, Values, names_of, read_part, read_parts, parts_of, line_of_parts, counted, begun, keyword_line, line_by, read_line, Test, Asked, End, One, failed_by, this_word, a_name, a_future, new_name, an_operand, is_relation, is_priority, within, opens, a_variable, other_future, an_argument, a_member, at_least_one, where_word, behind_part, priority_part, last_priority_part, retry_part, holds_part, settled_part, header_asked, keyword_asked, opened_by, line_asked, part_asked, parts_asked}
 use Rattle.task_text.specs.Scan.{◌>>=◌, ◌>>◌}
 use Rattle.task_reader.proofs.AskedWords.{Agrees, FollowsAt, Follows, ItemTested, tested, then-at, then-follows, pure-follows, map-follows, word-follows, by-agrees, where-follows, at-same, taken-at, refused-at, each-follows, some-follows}
 

@@ -1,9 +1,9 @@
 -- The first fault of the rows of a text is what the reading gives.
-use Rattle.task_reader.proofs.Vocabulary.{◌≡◌, ◌≢◌, ◌<◌, ℕ, zero, suc, ◌+◌, Bool, true, false, cond, Option, Some, None, List, [], ◌∷◌, ◌++◌, length, Result, Ok, Err, refl, sym, ◌∙◌, ap, subst, ◌⊎◌, inl, inr, arith, codes, differ-nil, same_bytes, MathOp, Cause, NotText, NoEnd, UnknownWord, Fault, fault_at, Word, Row, lines_of, without_mark, rows_of, start_of, is_text, check_text, whole, same-bytes, whole-answers, ArePresent, RowsPresent, rows-present, read-whole, whole-words, Step, Math, What, Item, Place, Outside, Head, Code, Jumped, Ended, Scope, first_scope, after, opening, header_line, entry, read_line, is_open_state, is_cut_short, line_of, items_from, rows_behind_header, items_of, operation_word, Spells, MayBegin, MayStand, row-accepted, header-accepted, AreNew, line-taken, new-after, Asked, cause_of, header_asked, opened_by, line_asked, word_at, IsRefusedAt, AreAsAsked, IsNoTextAt, AreText, RowFault, EndsTooSoon, LeadTo, LineFault, no_row, in_header, in_row, too_soon, left_open}
+use Rattle.task_reader.proofs.Vocabulary.{◌≡◌, ◌≢◌, ◌<◌, ℕ, zero, suc, ◌+◌, Bool, true, false, cond, Option, Some, None, List, [], ◌∷◌, ◌++◌, length, Result, Ok, Err, refl, sym, ◌∙◌, ap, subst, ◌⊎◌, inl, inr, arith, codes, differ-nil, same_bytes, MathOp, Cause, NotText, NoEnd, UnknownWord, Fault, fault_at, Word, Row, lines_of, without_mark, rows_of, start_of, is_text, check_text, whole, same-bytes, ArePresent, RowsPresent, rows-present, read-whole, whole-words, Step, Math, What, Item, Place, Outside, Head, Code, Jumped, Ended, Scope, first_scope, after, opening, header_line, entry, read_line, is_cut_short, line_of, items_from, rows_behind_header, items_of, operation_word, Spells, row-accepted, header-accepted, AreNew, line-taken, new-after, Asked, cause_of, header_asked, opened_by, line_asked, word_at, IsRefusedAt, AreAsAsked, IsNoTextAt, AreText, RowFault, EndsTooSoon, LeadTo, LineFault, no_row, in_header, in_row, too_soon, left_open}
 use Rattle.task_syntax.specs.declared.instr.MathOp.TheVariants as op
 use Rattle.task_text.specs.Fault.{◌>>=◌}
 use Rattle.task_lines.specs.declared.item.What.TheVariants as what
-use Rattle.task_reader.proofs.AskedWords.{verdict, RowAgrees, whole-agrees}
+use Rattle.task_reader.proofs.AskedWords.{RowAgrees, whole-agrees}
 use Rattle.task_reader.proofs.AskedLines.{line-agrees, header-agrees}
 use Rattle.task_reader.proofs.AskedPlaces.{TextAnswer, refused-found, none-refused, text-answers}
 

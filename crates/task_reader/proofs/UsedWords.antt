@@ -1,5 +1,5 @@
 -- The words that spell a line spell the names that it uses, each at its place.
-use Rattle.task_reader.proofs.Vocabulary.{◌≡◌, ℕ, zero, suc, Option, Some, None, List, [], ◌∷◌, ◌++◌, map, slice_get, refl, sym, ap, subst, codes, Word, Term, Passed, Step, Set, Math, If, Goto, Label, Cell, Rows, Spawn, All, Copy, Drop, Get, Again, Done, RootTerm, What, SpellsTerm, SpellsPassed, SpellsRootTerm, SpellsFuture, EachSpells, SpellsFutures, SpellsBehind, Spells, Use, UsesFuture, UsesRoot, SpellsUse, term_use, passed_use, root_term_use, behind_uses, futures_uses, step_uses, line_uses}
+use Rattle.task_reader.proofs.Vocabulary.{◌≡◌, ℕ, zero, suc, Option, Some, None, List, [], ◌∷◌, ◌++◌, map, slice_get, refl, sym, subst, codes, Word, Term, Passed, Step, Set, Math, If, Goto, Label, Cell, Rows, Spawn, All, Copy, Drop, Get, Again, Done, RootTerm, What, SpellsTerm, SpellsPassed, SpellsRootTerm, SpellsFuture, EachSpells, SpellsFutures, SpellsBehind, Spells, Use, UsesFuture, UsesRoot, SpellsUse, term_use, passed_use, root_term_use, behind_uses, futures_uses, step_uses, line_uses}
 use Rattle.task_lines.specs.declared.step.Term.TheVariants as term
 use Rattle.task_lines.specs.declared.step.Passed.TheVariants as passed
 use Rattle.task_lines.specs.declared.item.RootTerm.TheVariants as root_term

@@ -2,6 +2,7 @@ pub mod Uses
 pub mod Names
 pub mod Program
 pub mod Fits
+pub mod Groups
 pub mod Ahead
 pub mod Finding
 pub mod Parts

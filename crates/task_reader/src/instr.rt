@@ -1,6 +1,7 @@
-ghost use Rattle.std.specs.Prelude.{◌≡◌, ◌≤◌, ◌<◌, ◌+◌, length, map, option_map, IfOk};
+ghost use Rattle.std.specs.Prelude.{◌≡◌, ◌≤◌, ◌<◌, ◌+◌, ℕ, List as ListOf, length, map, option_map, IfOk};
 ghost use Rattle.task_reader.specs.Program.{number_place, future_place, place_of, operand_of, argument_of, instr_of, steps_to};
 ghost use Rattle.task_reader.specs.Fits.{AreShort, steps_ahead};
+ghost use Rattle.task_reader.specs.Groups.{SetsNumber, SetsFuture, SaysWhere};
 
 use crate::ahead::steps_to;
 use crate::place::{place_of, variable_place};
@@ -94,21 +95,14 @@ fn behind_place(p: &Positions, behind: &Option<Name>) -> Option<u16>
     }
 }
 
-/// The instruction of a step at a position, behind which other lines follow.
+/// The instruction of a step that sets a number.
 #[tactic(auto, unfolding(crate::specs::Program::instr_of))]
-pub fn instr_of(
-    alloc: Global,
-    p: &Positions,
-    at: usize,
-    ahead: &[Item],
-    step: &Step,
-) -> Result<Instr, AllocError>
+fn number_instr_of(p: &Positions, step: &Step) -> Instr
     requires short { AreShort p.now }
-    requires room { at + 1 + steps_ahead ahead.now ≤ 64 }
-    ensures { IfOk result
-        (λ instr. instr ≡ instr_of p.now (λ name. at + 1 + steps_to name ahead.now) step.now) }
+    requires group { SetsNumber step.now }
+    ensures { (label_place : ListOf ℕ → ℕ) → result ≡ instr_of p.now label_place step.now }
 {
-    Ok(match step {
+    match step {
         Step::Set { to, value } => Instr::Set {
             to: number_place(p, to),
             value: operand_of(p, value),
@@ -124,21 +118,6 @@ pub fn instr_of(
             left: operand_of(p, left),
             right: operand_of(p, right),
         },
-        Step::If {
-            relation,
-            left,
-            right,
-            target,
-        } => Instr::If {
-            relation: *relation,
-            left: operand_of(p, left),
-            right: operand_of(p, right),
-            target: label_place(at, ahead, target),
-        },
-        Step::Goto { target } => Instr::Goto {
-            target: label_place(at, ahead, target),
-        },
-        Step::Label { name } => Instr::Label { name: name.copy() },
         Step::Cell { to, column, row } => Instr::Cell {
             to: number_place(p, to),
             column: column.copy(),
@@ -148,6 +127,23 @@ pub fn instr_of(
             to: number_place(p, to),
             column: column.copy(),
         },
+        Step::Get { to, future } => Instr::Get {
+            to: number_place(p, to),
+            future: future_place(p, future),
+        },
+        _ => unreachable!(),
+    }
+}
+
+/// The instruction of a step that sets a future.
+#[tactic(auto, unfolding(crate::specs::Program::instr_of))]
+fn future_instr_of(alloc: Global, p: &Positions, step: &Step) -> Result<Instr, AllocError>
+    requires short { AreShort p.now }
+    requires group { SetsFuture step.now }
+    ensures { IfOk result (λ instr. (label_place : ListOf ℕ → ℕ)
+        → instr ≡ instr_of p.now label_place step.now) }
+{
+    Ok(match step {
         Step::Spawn {
             to,
             kind,
@@ -181,10 +177,34 @@ pub fn instr_of(
         Step::Drop { future } => Instr::Drop {
             future: future_place(p, future),
         },
-        Step::Get { to, future } => Instr::Get {
-            to: number_place(p, to),
-            future: future_place(p, future),
+        _ => unreachable!(),
+    })
+}
+
+/// The instruction of a step at a position that says where the task goes on.
+#[tactic(auto, unfolding(crate::specs::Program::instr_of))]
+fn going_instr_of(p: &Positions, at: usize, ahead: &[Item], step: &Step) -> Instr
+    requires short { AreShort p.now }
+    requires room { at + 1 + steps_ahead ahead.now ≤ 64 }
+    requires group { SaysWhere step.now }
+    ensures { result ≡ instr_of p.now (λ name. at + 1 + steps_to name ahead.now) step.now }
+{
+    match step {
+        Step::If {
+            relation,
+            left,
+            right,
+            target,
+        } => Instr::If {
+            relation: *relation,
+            left: operand_of(p, left),
+            right: operand_of(p, right),
+            target: label_place(at, ahead, target),
         },
+        Step::Goto { target } => Instr::Goto {
+            target: label_place(at, ahead, target),
+        },
+        Step::Label { name } => Instr::Label { name: name.copy() },
         Step::Again {
             target,
             behind,
@@ -197,7 +217,38 @@ pub fn instr_of(
         Step::Done { value } => Instr::Done {
             value: operand_of(p, value),
         },
-    })
+        _ => unreachable!(),
+    }
+}
+
+/// The instruction of a step at a position, behind which other lines follow.
+pub fn instr_of(
+    alloc: Global,
+    p: &Positions,
+    at: usize,
+    ahead: &[Item],
+    step: &Step,
+) -> Result<Instr, AllocError>
+    requires short { AreShort p.now }
+    requires room { at + 1 + steps_ahead ahead.now ≤ 64 }
+    ensures { IfOk result
+        (λ instr. instr ≡ instr_of p.now (λ name. at + 1 + steps_to name ahead.now) step.now) }
+{
+    match step {
+        Step::Set { .. }
+        | Step::Math { .. }
+        | Step::Cell { .. }
+        | Step::Rows { .. }
+        | Step::Get { .. } => Ok(number_instr_of(p, step)),
+        Step::Spawn { .. } | Step::All { .. } | Step::Copy { .. } | Step::Drop { .. } => {
+            future_instr_of(alloc, p, step)
+        }
+        Step::If { .. }
+        | Step::Goto { .. }
+        | Step::Label { .. }
+        | Step::Again { .. }
+        | Step::Done { .. } => Ok(going_instr_of(p, at, ahead, step)),
+    }
 }
 
 /// The position of a label ahead of a position.

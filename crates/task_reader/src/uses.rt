@@ -1,10 +1,12 @@
 //! The names that a line uses, looked up from left to right.
 
-ghost use Rattle.std.specs.Prelude.{◌≡◌, ◌≤◌, ◌<◌, ◌+◌, ◌^◌, ◌++◌, length};
+ghost use Rattle.std.specs.Prelude.{◌≡◌, ◌≤◌, ◌<◌, ◌+◌, ◌^◌, ◌++◌, ℕ, List as ListOf, length};
 ghost use Rattle.task_text.specs.Scan.{is_among as is_among_names};
 ghost use Rattle.task_reader.specs.Names.{Known, known_among, label_names, state_names, uses_known};
 ghost use Rattle.task_reader.specs.Uses.{step_uses, line_uses, root_uses, state_uses};
 ghost use Rattle.task_reader.specs.Fits.{IsShortStep, IsShort};
+ghost use Rattle.task_reader.specs.Groups.{SetsNumber, SetsFuture, SaysWhere};
+ghost use Rattle.task_lines.specs.declared.item.Item.{Item as ItemOf};
 
 use crate::ahead::{has_label, has_state};
 use crate::place::is_among;
@@ -13,18 +15,12 @@ use task_lines::{Item, RootTerm, Scope, Step, What};
 use task_syntax::{Name, Variable};
 use task_text::Fault;
 
-/// Looks up the names of an instruction, from left to right.
-#[tactic(auto, unfolding(crate::specs::Names::uses_known), using(crate::proofs::StepLemmas::term_lemmas))]
-fn step_known(
-    kinds: &[Name],
-    scope: &Scope,
-    ahead: &[Item],
-    line: u32,
-    step: &Step,
-) -> Result<(), Fault>
-    requires { IsShortStep step.now }
-    ensures { result ≡ uses_known (known_among kinds.now scope.now ahead.now) line 1
-        (step_uses step.now) }
+/// Looks up the names of an instruction that sets a number.
+#[tactic(auto, unfolding(crate::specs::Names::uses_known), using(crate::proofs::StepLemmas::terms))]
+fn number_step_known(scope: &Scope, line: u32, step: &Step) -> Result<(), Fault>
+    requires { SetsNumber step.now }
+    ensures { (kinds : ListOf (ListOf ℕ)) (ahead : ListOf ItemOf)
+        → result ≡ uses_known (known_among kinds scope.now ahead) line 1 (step_uses step.now) }
 {
     let variables = scope.variables.as_slice();
     let mut at = WordPlace::first(line);
@@ -44,26 +40,32 @@ fn step_known(
             at.term_known(variables, left)?;
             at.term_known(variables, right)
         }
-        Step::If {
-            left,
-            right,
-            target,
-            ..
-        } => {
-            at.term_known(variables, left)?;
-            at.pass(1);
-            at.term_known(variables, right)?;
-            at.pass(1);
-            at.known(is_label(ahead, target))
-        }
-        Step::Goto { target } => at.known(is_label(ahead, target)),
-        Step::Label { .. } => Ok(()),
         Step::Cell { to, row, .. } => {
             at.number_known(variables, to)?;
             at.pass(1);
             at.term_known(variables, row)
         }
         Step::Rows { to, .. } => at.number_known(variables, to),
+        Step::Get { to, future } => {
+            at.number_known(variables, to)?;
+            at.future_known(variables, future)
+        }
+        _ => unreachable!(),
+    }
+}
+
+/// Looks up the names of an instruction that sets a future.
+#[tactic(auto, unfolding(crate::specs::Names::uses_known))]
+fn future_step_known(kinds: &[Name], scope: &Scope, line: u32, step: &Step) -> Result<(), Fault>
+    requires short { IsShortStep step.now }
+    requires group { SetsFuture step.now }
+    ensures { (ahead : ListOf ItemOf)
+        → result ≡ uses_known (known_among kinds.now scope.now ahead) line 1 (step_uses step.now) }
+{
+    let variables = scope.variables.as_slice();
+    let mut at = WordPlace::first(line);
+    at.pass(1);
+    match step {
         Step::Spawn {
             to,
             kind,
@@ -84,15 +86,70 @@ fn step_known(
             at.future_known(variables, of)
         }
         Step::Drop { future } => at.future_known(variables, future),
-        Step::Get { to, future } => {
-            at.number_known(variables, to)?;
-            at.future_known(variables, future)
+        _ => unreachable!(),
+    }
+}
+
+/// Looks up the names of an instruction that says where the task goes on.
+#[tactic(auto, unfolding(crate::specs::Names::uses_known), using(crate::proofs::StepLemmas::terms))]
+fn going_step_known(scope: &Scope, ahead: &[Item], line: u32, step: &Step) -> Result<(), Fault>
+    requires { SaysWhere step.now }
+    ensures { (kinds : ListOf (ListOf ℕ))
+        → result ≡ uses_known (known_among kinds scope.now ahead.now) line 1 (step_uses step.now) }
+{
+    let variables = scope.variables.as_slice();
+    let mut at = WordPlace::first(line);
+    at.pass(1);
+    match step {
+        Step::If {
+            left,
+            right,
+            target,
+            ..
+        } => {
+            at.term_known(variables, left)?;
+            at.pass(1);
+            at.term_known(variables, right)?;
+            at.pass(1);
+            at.known(is_label(ahead, target))
         }
+        Step::Goto { target } => at.known(is_label(ahead, target)),
+        Step::Label { .. } => Ok(()),
         Step::Again { target, behind, .. } => {
             at.known(is_state(scope, ahead, target))?;
             at.behind_known(variables, behind)
         }
         Step::Done { value } => at.term_known(variables, value),
+        _ => unreachable!(),
+    }
+}
+
+/// Looks up the names of an instruction, from left to right.
+fn step_known(
+    kinds: &[Name],
+    scope: &Scope,
+    ahead: &[Item],
+    line: u32,
+    step: &Step,
+) -> Result<(), Fault>
+    requires { IsShortStep step.now }
+    ensures { result ≡ uses_known (known_among kinds.now scope.now ahead.now) line 1
+        (step_uses step.now) }
+{
+    match step {
+        Step::Set { .. }
+        | Step::Math { .. }
+        | Step::Cell { .. }
+        | Step::Rows { .. }
+        | Step::Get { .. } => number_step_known(scope, line, step),
+        Step::Spawn { .. } | Step::All { .. } | Step::Copy { .. } | Step::Drop { .. } => {
+            future_step_known(kinds, scope, line, step)
+        }
+        Step::If { .. }
+        | Step::Goto { .. }
+        | Step::Label { .. }
+        | Step::Again { .. }
+        | Step::Done { .. } => going_step_known(scope, ahead, line, step),
     }
 }
 

@@ -1,5 +1,5 @@
 -- Lines as items and as rows, each with its number.
-use Rattle.task_writer.proofs.Vocabulary.{◌≡◌, ℕ, ◌+◌, List, [], ◌∷◌, ◌++◌, ◌∙◌, Row, What, Item, line_words}
+use Rattle.task_writer.proofs.Vocabulary.{ℕ, ◌+◌, List, [], ◌∷◌, Row, What, Item, line_words}
 
 -- the lines as items, the first on line `at`
 abbrev pub items_at : ℕ → List What → List Item

@@ -1,5 +1,6 @@
 pub mod Words
 pub mod Lines
+pub mod Groups
 pub mod Text
 pub mod Numbering
 pub mod Same

@@ -1,8 +1,10 @@
-ghost use Rattle.std.specs.Prelude.{◌≡◌, ◌++◌, ◌∷◌, [], codes, map, option_map, OnOk};
+ghost use Rattle.std.specs.Prelude.{◌≡◌, ◌++◌, ◌∷◌, [], ℕ, List as ListOf, codes, map, option_map, OnOk};
+ghost use Rattle.task_syntax.specs.declared.program.State.{State as StateOf};
 ghost use Rattle.task_lines.specs.Grammar.{future_word, operation_word, relation_word, behind_words, retry_words};
 ghost use Rattle.task_writer.specs.Lines.{name_at, kind_names, variable_names, names_in, term_of, passed_of, step_of};
 ghost use Rattle.task_writer.specs.Words.{term_word, passed_word, priority_words, step_words};
 ghost use Rattle.task_writer.specs.Text.{spaced, parted, line_text};
+ghost use Rattle.task_writer.specs.Groups.{SetsNumber, SetsFuture, SaysWhere};
 
 use crate::list::{put_arguments, put_futures};
 use crate::name::{kind_name, label_name, state_name, variable_name};
@@ -285,19 +287,13 @@ fn put_done(out: &mut Vec<u8>, variables: &[Variable], value: Operand) -> Result
     put_end(out)
 }
 
-/// Writes the line of an instruction in a state of a kind.
+/// Writes the line of an instruction that sets a number.
 #[tactic(auto, unfolding(crate::specs::Lines::step_of), using(crate::proofs::Putting::long_lines))]
-pub fn put_step(
-    out: &mut Vec<u8>,
-    kinds: &[Kind],
-    kind: &Kind,
-    state: &State,
-    instr: &Instr,
-) -> Result<(), AllocError>
-    ensures { OnOk result
+fn put_number_step(out: &mut Vec<u8>, kind: &Kind, instr: &Instr) -> Result<(), AllocError>
+    requires { SetsNumber instr.now }
+    ensures { (kinds : ListOf (ListOf ℕ)) (state : StateOf) → OnOk result
         (out.new.items ≡ out.old.items
-        ++ line_text (step_words
-        (step_of (names_in (kind_names kinds.now) kind.now state.now) instr.now))) }
+        ++ line_text (step_words (step_of (names_in kinds kind.now state) instr.now))) }
 {
     let variables = kind.variables.as_slice();
     match instr {
@@ -308,23 +304,35 @@ pub fn put_step(
             left,
             right,
         } => put_math(out, variables, *op, *to, *left, *right),
-        Instr::If {
-            relation,
-            left,
-            right,
-            target,
-        } => {
-            let label = label_name(state.code.as_slice(), *target);
-            put_if(out, variables, *relation, *left, *right, label)
-        }
-        Instr::Goto { target } => {
-            put_named(out, b"goto", label_name(state.code.as_slice(), *target))
-        }
-        Instr::Label { name } => put_named(out, b"label", name.as_bytes()),
         Instr::Cell { to, column, row } => {
             put_cell(out, variables, *to, column.as_bytes(), *row)
         }
         Instr::Rows { to, column } => put_rows(out, variables, *to, column.as_bytes()),
+        Instr::Get { to, future } => put_get(
+            out,
+            variable_name(variables, *to),
+            variable_name(variables, *future),
+        ),
+        _ => unreachable!(),
+    }
+}
+
+/// Writes the line of an instruction that sets a future.
+#[tactic(auto, unfolding(crate::specs::Lines::step_of), using(crate::proofs::Putting::long_lines))]
+fn put_future_step(
+    out: &mut Vec<u8>,
+    kinds: &[Kind],
+    kind: &Kind,
+    instr: &Instr,
+) -> Result<(), AllocError>
+    requires { SetsFuture instr.now }
+    ensures { (state : StateOf) → OnOk result
+        (out.new.items ≡ out.old.items
+        ++ line_text (step_words
+        (step_of (names_in (kind_names kinds.now) kind.now state) instr.now))) }
+{
+    let variables = kind.variables.as_slice();
+    match instr {
         Instr::Spawn {
             to,
             kind: callee,
@@ -351,11 +359,38 @@ pub fn put_step(
             variable_name(variables, *of),
         ),
         Instr::Drop { future } => put_drop(out, variable_name(variables, *future)),
-        Instr::Get { to, future } => put_get(
-            out,
-            variable_name(variables, *to),
-            variable_name(variables, *future),
-        ),
+        _ => unreachable!(),
+    }
+}
+
+/// Writes the line of an instruction that says where the task goes on.
+#[tactic(auto, unfolding(crate::specs::Lines::step_of), using(crate::proofs::Putting::long_lines))]
+fn put_going_step(
+    out: &mut Vec<u8>,
+    kind: &Kind,
+    state: &State,
+    instr: &Instr,
+) -> Result<(), AllocError>
+    requires { SaysWhere instr.now }
+    ensures { (kinds : ListOf (ListOf ℕ)) → OnOk result
+        (out.new.items ≡ out.old.items
+        ++ line_text (step_words (step_of (names_in kinds kind.now state.now) instr.now))) }
+{
+    let variables = kind.variables.as_slice();
+    match instr {
+        Instr::If {
+            relation,
+            left,
+            right,
+            target,
+        } => {
+            let label = label_name(state.code.as_slice(), *target);
+            put_if(out, variables, *relation, *left, *right, label)
+        }
+        Instr::Goto { target } => {
+            put_named(out, b"goto", label_name(state.code.as_slice(), *target))
+        }
+        Instr::Label { name } => put_named(out, b"label", name.as_bytes()),
         Instr::Again {
             target,
             behind,
@@ -365,5 +400,36 @@ pub fn put_step(
             put_again(out, variables, name, *behind, *priority)
         }
         Instr::Done { value } => put_done(out, variables, *value),
+        _ => unreachable!(),
+    }
+}
+
+/// Writes the line of an instruction in a state of a kind.
+pub fn put_step(
+    out: &mut Vec<u8>,
+    kinds: &[Kind],
+    kind: &Kind,
+    state: &State,
+    instr: &Instr,
+) -> Result<(), AllocError>
+    ensures { OnOk result
+        (out.new.items ≡ out.old.items
+        ++ line_text (step_words
+        (step_of (names_in (kind_names kinds.now) kind.now state.now) instr.now))) }
+{
+    match instr {
+        Instr::Set { .. }
+        | Instr::Math { .. }
+        | Instr::Cell { .. }
+        | Instr::Rows { .. }
+        | Instr::Get { .. } => put_number_step(out, kind, instr),
+        Instr::Spawn { .. } | Instr::All { .. } | Instr::Copy { .. } | Instr::Drop { .. } => {
+            put_future_step(out, kinds, kind, instr)
+        }
+        Instr::If { .. }
+        | Instr::Goto { .. }
+        | Instr::Label { .. }
+        | Instr::Again { .. }
+        | Instr::Done { .. } => put_going_step(out, kind, state, instr),
     }
 }

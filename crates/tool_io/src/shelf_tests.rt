@@ -34,16 +34,24 @@ fn small_shelf(rt: &HostRuntime, fail: &[u64]) -> Result<MemoryShelf, AllocError
     Ok(MemoryShelf::new(names, listed))
 }
 
+// The answer of a fetch, where memory was not wanting.
+fn but_for_memory(answer: Result<(), FetchError>) -> Result<Result<(), FetchError>, AllocError> {
+    match answer {
+        Err(FetchError::Memory) => Err(AllocError),
+        answer => Ok(answer),
+    }
+}
+
 // What a shelf answers to one fetch into an empty vector, and what is in that then.
 fn fetched<S: Shelf>(
     alloc: Global,
     shelf: &mut S,
     name: &str,
     most: u64,
-) -> (Result<(), FetchError>, Vec<u8>) {
+) -> Result<(Result<(), FetchError>, Vec<u8>), AllocError> {
     let mut into = Vec::new(alloc);
-    let answer = shelf.fetch(name, most, &mut into);
-    (answer, into)
+    let answer = but_for_memory(shelf.fetch(name, most, &mut into))?;
+    Ok((answer, into))
 }
 
 #[test]
@@ -59,7 +67,7 @@ fn memory_shelf_answers(rt: HostRuntime) -> Result<(), Fail> {
         ("a", 4, Ok(()), "one", 2),
     ];
     for (name, most, answer, content, faults) in rows {
-        let (got, into) = fetched(rt.alloc(), &mut shelf, name, most);
+        let (got, into) = fetched(rt.alloc(), &mut shelf, name, most)?;
         assert_eq!(rt; got, answer, "at {name}, {most}");
         assert_eq!(rt; into.as_slice(), content.as_bytes());
         assert_eq!(rt; shelf.last, Some(answer));
@@ -92,7 +100,7 @@ fn a_reader_is_read_to_its_end_or_to_the_limit(rt: HostRuntime) -> Result<(), Fa
         let (mut into, mut faults) = (Vec::new(rt.alloc()), 0);
         let mut reader = content.as_slice();
         assert_eq!(rt;
-            read_up_to(&mut reader, most, &mut into, &mut faults),
+            but_for_memory(read_up_to(&mut reader, most, &mut into, &mut faults))?,
             answer,
             "{most}"
         );
@@ -101,7 +109,7 @@ fn a_reader_is_read_to_its_end_or_to_the_limit(rt: HostRuntime) -> Result<(), Fa
     }
     let (mut into, mut faults) = (Vec::new(rt.alloc()), 0);
     let mut reader = Broken { left: &content };
-    let answer = read_up_to(&mut reader, 9000, &mut into, &mut faults);
+    let answer = but_for_memory(read_up_to(&mut reader, 9000, &mut into, &mut faults))?;
     assert_eq!(rt; answer, Err(FetchError::Failed));
     assert_eq!(rt; into.len(), 0);
     assert_eq!(rt; faults, 1);
@@ -119,14 +127,14 @@ fn real_files_are_read(rt: HostRuntime) -> Result<(), Fail> {
         ("/", 9, failed, 2),
     ];
     for (name, most, answer, faults) in rows {
-        let (got, into) = fetched(rt.alloc(), &mut shelf, name, most);
+        let (got, into) = fetched(rt.alloc(), &mut shelf, name, most)?;
         assert_eq!(rt; got, answer, "at {name}");
         assert_eq!(rt; into.len(), 0);
         assert_eq!(rt; shelf.last, Some(answer));
         assert_eq!(rt; shelf.faults, faults);
     }
     std::fs::write(&rt, "shelf_test.txt", "ktask 1\n")?;
-    let (got, into) = fetched(rt.alloc(), &mut shelf, "shelf_test.txt", 8);
+    let (got, into) = fetched(rt.alloc(), &mut shelf, "shelf_test.txt", 8)?;
     std::fs::remove_file(&rt, "shelf_test.txt")?;
     assert_eq!(rt; got, Ok(()));
     assert_eq!(rt; into.as_slice(), b"ktask 1\n".as_slice());

@@ -9,6 +9,8 @@ mod commands;
 mod numbers;
 mod parse;
 #[cfg(test)]
+mod samples;
+#[cfg(test)]
 mod tests;
 mod words;
 mod words_error;

@@ -1,4 +1,4 @@
-use Rattle.std.proofs.Common.{refl, ◌∙◌}
+use Rattle.std.proofs.Common.{◌∙◌}
 use Rattle.ktask_cli.specs.Order.{bench_order}
 use Rattle.ktask_cli.proofs.RunEnded.{run_ended}
 use Rattle.ktask_cli.proofs.bench.make_and_run.Goals as goal
@@ -13,4 +13,5 @@ returns-clause-run c =
       faithful = c.in_ok-end.ensures.faithful;
       answers = c.in_ok-end.ensures.answers;
       complete = c.in_ok-end.ensures.complete;
+      counts = c.in_ok-end.ensures.counts;
     })

@@ -1,6 +1,3 @@
-use Rattle.std.proofs.Common.{map, string_bytes}
-use Rattle.std.specs.Result.{result_map_both}
-use Rattle.tool_words.specs.Choice.{choice_of, choice_seen}
 use Rattle.ktask_cli.proofs.Chosen.{does, plain_gives}
 use Rattle.ktask_cli.proofs.Statuses.{status_has_cause}
 use Rattle.ktask_cli.proofs.plain.plain_tool.Goals as goal

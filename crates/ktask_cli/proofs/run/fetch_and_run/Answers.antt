@@ -1,8 +1,5 @@
-use Rattle.std.proofs.Common.{option_copied, inl, inr, refl, subst}
+use Rattle.std.proofs.Common.{option_copied, inl, inr, refl}
 use Rattle.std.proofs.lemmas.Result.{err_from_is_err_and}
-use Rattle.record_core.specs.EndSeen.{RunPlan}
-use Rattle.record_core.specs.EndSound.{EndSound, EndComplete}
-use Rattle.run_model.specs.End.{EndsAs}
 use Rattle.ktask_cli.specs.Ready.{valid_under, columns_under}
 use Rattle.tool_words.specs.Choice.{run_seen}
 use Rattle.ktask_cli.specs.Order.{order_of}
@@ -38,4 +35,5 @@ returns-in-Ok-clause-run g c =
       faithful = c.in-Ok.ensures.faithful;
       answers = c.in-Ok.ensures.answers;
       complete = c.in-Ok.ensures.complete;
+      counts = c.in-Ok.ensures.counts;
     })

@@ -1,4 +1,4 @@
-use Rattle.std.proofs.Common.{arith, refl, rules}
+use Rattle.std.proofs.Common.{arith, refl}
 use Rattle.ktask_cli.proofs.run_plan.bench_plan.Goals as goal
 
 pub unwrap-geometry-requires : goal.unwrap-geometry-requires

@@ -1,7 +1,6 @@
-use Rattle.std.proofs.Common.{◌≡◌, Ok, None, Some, refl}
+use Rattle.std.proofs.Common.{Ok, Some, refl}
 use Rattle.tool_words.specs.Choice.{run_seen}
 use Rattle.ktask_cli.specs.Order.{order_of, order_text}
-use Rattle.ktask_cli.specs.Outcome.{plain_answer}
 use Rattle.ktask_cli.specs.RunStatus.{status_of_ends}
 use Rattle.ktask_cli.proofs.Offered.{writes_as}
 use Rattle.ktask_cli.proofs.RunEnded.{can_be_reported}
