@@ -117,7 +117,7 @@ set-weight (o ∷ fs) zero u w = omega arith
 set-weight (o ∷ fs) (suc x) u w = set-weight fs x u w
 
 -- what is held behind an instruction that asks for a task was held before, or is that task's variable
-asks-held : (instr : Instr) (x y : ℕ) (f : Facts) → AsksInto x instr → IsTrue (has y (after instr f).held) → (y ≡ x) ⊎ IsTrue (has y f.held)
+pub asks-held : (instr : Instr) (x y : ℕ) (f : Facts) → AsksInto x instr → IsTrue (has y (after instr f).held) → (y ≡ x) ⊎ IsTrue (has y f.held)
 asks-held (Spawn to kind arguments behind priority retry) x y f is held = elim (either (nat_eq y to) (has y (without to f.held)) held) [
   | inl s ↦ inl (eqb-true y to s ∙ is)
   | inr s ↦ inr (has-without y to f.held s).1

@@ -42,8 +42,9 @@ none-held c (Drop x) q y f none held = absurd (none_there _ (sym none))
 none-held c instr q y f none held = held
 
 -- what is held where the frame goes on to was held
-line-held : (p : Program) (c : Columns) (q next : FrameOf ℕ) (variables : List ℕ) → Passes p c q next → HeldAmong p (OfKind q) variables → HeldAmong p (OfKind next) variables
-line-held p c q next variables (line, stands, act) among y state is held = among y state is' (λ f way. by moves.goes f way)
+pub held-before : (p : Program) (c : Columns) (q next : FrameOf ℕ) → Passes p c q next → (state : State) → state_at p next.kind next.state ≡ Some state → (y : ℕ) → Held state next.at y
+    → (state_at p q.kind q.state ≡ Some state) × Held state q.at y
+held-before p c q next (line, stands, act) state is y held = (is', λ f way. by moves.goes f way)
   where
     moves : Moves line.instr q next
     moves = passes-moves q next c line.instr act.0 act.1
@@ -55,6 +56,10 @@ line-held p c q next variables (line, stands, act) among y state is held = among
     by (inl t) f way = none-held c line.instr q y f act.0
         (held (after line.instr f) (subst (λ (k : ℕ). Way state k (after line.instr f)) (sym t.0) (goes_on line.instr way (stands-there p q state line is' stands) t.1)))
     by (inr j) f way = held f (jumps line.instr next.at way (stands-there p q state line is' stands) j)
+
+-- so it is among the same variables
+line-held : (p : Program) (c : Columns) (q next : FrameOf ℕ) (variables : List ℕ) → Passes p c q next → HeldAmong p (OfKind q) variables → HeldAmong p (OfKind next) variables
+line-held p c q next variables over among y state is held = let t = held-before p c q next over state is y held in among y state t.0 t.1
 
 -- so it is over all lines
 lines-held : (p : Program) (c : Columns) (q last : FrameOf ℕ) (variables : List ℕ) → GoesTo p c q last → HeldAmong p (OfKind q) variables → HeldAmong p (OfKind last) variables
@@ -106,7 +111,7 @@ reads-cover p futures runs r q next to x stands but same has_run few was words i
     (λ w. omega arith)
 
 -- what is held behind a copy was held, or is its variable
-copy-held : (to source y : ℕ) (f : Facts) → IsTrue (has y (after (Copy to source) f).held) → (y ≡ to) ⊎ IsTrue (has y f.held)
+pub copy-held : (to source y : ℕ) (f : Facts) → IsTrue (has y (after (Copy to source) f).held) → (y ≡ to) ⊎ IsTrue (has y f.held)
 copy-held to source y f held = by (nat_eq to source) held
   where
     by : (b : Bool) → IsTrue (has y (cond b f (renewed to (has source f.settled) (members_of source f.members) f)).held) → (y ≡ to) ⊎ IsTrue (has y f.held)

@@ -380,6 +380,7 @@ module _ (g : Setup) (id : ℕ) (v : View) (m : Mem) (vs : List View) (s : Story
           (old-or-new askers (AskedSound calls g.plan) (λ k x there. asked-stays s.calls a g.plan (seen askers x) (drawn-numbers k x there) (run-numbers k x there) (l.schedule askers k (seen askers x) (at_map (seen askers) vs k x there))) asks)
       draw-says framed = moves g vs id v at framed story m' after_draw (record {
         saved = λ w near saved. frame-stays s.calls a sound g.checked (λ x. m (task x)) (number_of (states w)) (body_at g.checked (frame_in m w)) (saved-number w near saved) ((l.schedule framed).saved w near saved);
+        names = (l.schedule framed).names;
         running = old-or-new framed (Each IsFramed) framed-old
             (is.run_as.each IsFramed (λ r r' alike e. subst (λ (k : ℕ). IsFrameOf g.checked calls (λ w. m (task w)) k (body_at g.checked (slice_index r'.words))) (sym alike.number)
             (subst (λ (ws : List ℕ). IsFrameOf g.checked calls (λ w. m (task w)) r.number (body_at g.checked (slice_index ws))) (sym alike.words) e)) (framed-old id v at));

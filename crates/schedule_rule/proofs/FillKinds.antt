@@ -26,6 +26,7 @@ use Rattle.record_core.proofs.TotalFacts.{none_there}
 use Rattle.schedule_rule.specs.Numbers.{saved_at, done_with}
 use Rattle.schedule_rule.specs.RuleLaws.{is_filled as may_fill}
 use Rattle.schedule_rule.specs.Parts.{Part, owners, framed, root_tasks, behind, classes, seen, Says, AllSay, Keeps, formed, results}
+use Rattle.schedule_rule.proofs.FrontFacts.{holds-same}
 use Rattle.schedule_rule.proofs.FrameFacts.{frame-tasks, frame-words, saved-members, running-members, root-named, front-same}
 use Rattle.schedule_rule.proofs.RecordKinds.{test_record}
 use Rattle.schedule_rule.proofs.Rule.{frames, same-story}
@@ -114,6 +115,7 @@ module _ (g : Setup) (id : ℕ) (v : View) where
       })
       task-says framed = frames g vs id v at framed s (put m (task u) n) after refl (record {
         saved = λ w near is. frame-tasks g.checked s.calls tasks tasks' (number_of (states w)) (body_at g.checked (frame_in m w)) (λ x has. others x (saved-members g m vs s l w near is x has)) ((l.schedule framed).saved w near is);
+        names = (l.schedule framed).names;
         running = λ k rs there j r at'.
             let t = map_at (seen framed) vs k rs there in
             frame-tasks g.checked s.calls tasks tasks' r.number (body_at g.checked (slice_index r.words))
@@ -174,6 +176,7 @@ module _ (g : Setup) (id : ℕ) (v : View) where
       frame-says : (q : Part) → Says g q s (put m (arena x) n) (map (seen q) (slice_set vs id after_frame))
       frame-says framed = frames g vs id v at framed s (put m (arena x) n) after_frame refl (record {
         saved = λ w near is. frame-words g.checked s.calls tasks (number_of (states w)) (frame_in m w) (frame_in (put m (arena x) n) w) (frame-stays g id v m vs s l.table at x n mine w near is) ((l.schedule framed).saved w near is);
+        names = λ w near is. holds-same g.checked (frame_in m w) (frame_in (put m (arena x) n) w) (frame-stays g id v m vs s l.table at x n mine w near is) ((l.schedule framed).names w near is);
         running = (l.schedule framed).running;
       })
       frame-says formed = frames g vs id v at formed s (put m (arena x) n) after_frame refl (record {

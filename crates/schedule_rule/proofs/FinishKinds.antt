@@ -245,6 +245,7 @@ module _ (g : Setup) (id : ℕ) (v : View) where
     finish-says askers = moves g vs id v at askers story m' after_finish (each-set (AskedSound s.calls g.plan) (map (seen askers) vs) id (seen askers after_finish) (l.schedule askers) asked-now)
     finish-says framed = moves g vs id v at framed story m' after_finish (record {
       saved = λ w low is. subst (λ (x : ℕ). IsFrameOf g.checked s.calls tasks x (body_at g.checked (frame_in m w))) (sym (number-now w)) ((l.schedule framed).saved w low (sym (saved-now w) ∙ is));
+      names = λ w low is. (l.schedule framed).names w low (sym (saved-now w) ∙ is);
       running = each-set _ (map (seen framed) vs) id runs (l.schedule framed).running (each-dropped _ (is_run_at u) v.runs ((l.schedule framed).running id v.runs (at_map (seen framed) vs id v at)));
     })
     finish-says formed = moves g vs id v at formed story m' after_finish (record {

@@ -1,5 +1,5 @@
 -- The words of a block begin with a frame that says what they say.
-use Rattle.std.proofs.Common.{◌≡◌, ◌∙◌, ℕ, suc, ◌+◌, ◌<◌, ◌≤◌, Bool, true, false, cond, Option, Some, None, List, [], ◌∷◌, length, refl, sym, ap, arith}
+use Rattle.std.proofs.Common.{◌≡◌, ◌∙◌, ℕ, suc, ◌+◌, ◌<◌, ◌≤◌, Bool, true, false, cond, Option, Some, None, List, [], ◌∷◌, length, refl, sym, ap, subst, arith}
 use Rattle.std.specs.Prelude.{slice_index, slice_get}
 use Rattle.std.specs.List.{filter_map}
 use Rattle.task_syntax.specs.declared.program.Program.{Program}
@@ -10,10 +10,10 @@ use Rattle.task_syntax.specs.declared.program.Sort.TheVariants.{Number, Future}
 use Rattle.task_meaning.specs.Frame.{FrameOf, variables_of, variables_in}
 use Rattle.frame_code.specs.Control.{control_kind, control_state, control_at, is_aggregate}
 use Rattle.frame_code.specs.Frames.{frame_length, IsFrame}
-use Rattle.frame_code.specs.Words.{OfKind, OfMembers, variable_list, variables_at, number_count, future_count, one_if_future, unit_named, future_if, numbers_from, futures_from, words_from, members_at, frame_at, body_at, body_of}
+use Rattle.frame_code.specs.Words.{BodyOf, OfKind, OfMembers, variable_list, variables_at, number_count, future_count, one_if_future, unit_named, future_if, numbers_from, futures_from, words_from, members_at, frame_at, body_at, body_of}
 use Rattle.frame_code.proofs.Variables.{numbers-same, both-counts}
 use Rattle.table_core.proofs.FrameReads.{frame-some, length-group, words-within}
-use Rattle.schedule_rule.specs.Frames.{front}
+use Rattle.schedule_rule.specs.Frames.{HoldsNames, front}
 use Rattle.schedule_rule.proofs.TakingFacts.{read-words}
 
 -- words that agree from the first future on, as far as there are futures, name the same units
@@ -71,6 +71,10 @@ body-same p w w' same = by (is_aggregate (w 0)) refl
     by true e = body-group w' (ap is_aggregate first ∙ e) ∙ ap (λ (units : List ℕ). OfMembers units (control_at (w' 0))) (group e)
         ∙ ap (λ (c : ℕ). OfMembers (members_at w) (control_at c)) first ∙ sym (body-group w e)
     by false e = body-task w' (ap is_aggregate first ∙ e) ∙ ap OfKind (task e) ∙ sym (body-task w e)
+
+-- and where what is held names units by the one, it does so by the other
+pub holds-same : (p : Program) (w w' : ℕ → ℕ) → ((k : ℕ) → k < frame_length p (w 0) → w' k ≡ w k) → HoldsNames p (body_at p w) → HoldsNames p (body_at p w')
+holds-same p w w' same names = subst (λ (b : BodyOf ℕ). HoldsNames p b) (sym (body-same p w w' same)) names
 
 -- the front says what the words say
 pub front-says : (p : Program) (words : ℕ → ℕ) → body_of p (front p words) ≡ body_at p words

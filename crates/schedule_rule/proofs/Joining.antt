@@ -184,6 +184,7 @@ module _ (g : Setup) (m : Mem) (vs : List View) (s : Story) (l : (q : Part) → 
       (record { asker = each-none _; made = each-none _; unplaced = each-none _; one = each-none _; asked = each-none _ })
   joined_parts framed = record {
     saved = (l framed).saved;
+    names = (l framed).names;
     running = each-after framed (Each (λ (r : Run). IsFrameOf g.checked s.calls (λ u. m (task u)) r.number (body_at g.checked (slice_index r.words)))) (l framed).running
         (mine framed _ (l framed).running) (each-none _);
   }

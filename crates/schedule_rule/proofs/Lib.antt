@@ -53,6 +53,7 @@ pub mod NamingKinds
 pub mod ReadyKinds
 pub mod CoveringFacts
 pub mod CoveringMoveFacts
+pub mod HeldNameFacts
 pub mod LostFacts
 pub mod OverFacts
 pub mod LimitFacts

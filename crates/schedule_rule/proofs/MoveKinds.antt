@@ -157,6 +157,7 @@ module _ (g : Setup) (id : ℕ) (v : View) (m : Mem) (vs : List View) (s : Story
       }))
   move-says framed = moves g vs id v at framed s m after_move (record {
     saved = (l.schedule framed).saved;
+    names = (l.schedule framed).names;
     running = each-set _ (map (seen framed) vs) id runs (l.schedule framed).running
         (each-changed (is_run_at u) (with_words next) (λ (x : Run). IsFrameOf g.checked s.calls (λ w. m (task w)) x.number (body_at g.checked (slice_index x.words))) v.runs
         (λ x there here of. moved-frame g.checked r.words next is s.calls (λ w. m (task w)) x.number

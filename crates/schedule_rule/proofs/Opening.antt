@@ -55,7 +55,7 @@ module _ (g : Setup) where
   opened_parts rowed = each-cons _ (seen rowed first_view) [] (record { task = λ n. omega arith; after = λ n. omega arith; runs = each-none _ }) (each-none _)
   opened_parts places = λ n. omega (arith, below-zeros (units_of g.plan), ap one_if (no_number n))
   opened_parts askers = each-cons _ (seen askers first_view) [] (record { asker = each-none _; made = each-none _; unplaced = each-none _; one = each-none _; asked = each-none _ }) (each-none _)
-  opened_parts framed = record { saved = λ u near is. absurd (true≢false (sym is)); running = each-cons _ [] [] (each-none _) (each-none _) }
+  opened_parts framed = record { saved = λ u near is. absurd (true≢false (sym is)); names = λ u near is. absurd (true≢false (sym is)); running = each-cons _ [] [] (each-none _) (each-none _) }
   opened_parts formed = record { saved = λ u near is. absurd (true≢false (sym is)); running = each-cons _ [] [] (each-none _) (each-none _) }
   opened_parts suited = each-none _
   opened_parts begun = λ u near is. absurd (true≢false (sym is))

@@ -27,7 +27,7 @@ use Rattle.table_core.proofs.RecordKinds.{state-other}
 use Rattle.schedule_rule.specs.Askers.{asks_for, IsAsker, IsForRecord, IsNextOf, AskedSound}
 use Rattle.schedule_rule.specs.Calls.{task_of, after_of, begun as begun_before, IsNumber, IsTaskOf, IsLast, IsComplete}
 use Rattle.schedule_rule.specs.Counts.{class_in}
-use Rattle.schedule_rule.specs.Frames.{IsFrameOf, IsFormed, BagSound}
+use Rattle.schedule_rule.specs.Frames.{HoldsNames, IsFrameOf, IsFormed, BagSound}
 use Rattle.schedule_rule.specs.Numbers.{in_hand, in_hands, IsRun}
 use Rattle.schedule_rule.specs.Limits.{ToldSound, is_limit, IsMet}
 use Rattle.schedule_rule.proofs.LimitFacts.{each-answers_left}
@@ -38,6 +38,7 @@ use Rattle.schedule_rule.specs.Rows.{RowedSound}
 use Rattle.schedule_rule.proofs.AskingFacts.{is_run, one-run}
 use Rattle.schedule_rule.proofs.DrawKinds.{drawn-numbers}
 use Rattle.schedule_rule.proofs.FrameFacts.{frame-words}
+use Rattle.schedule_rule.proofs.FrontFacts.{holds-same}
 use Rattle.schedule_rule.proofs.PlacingFactsFrames.{next-frame, reads-same, formed-same}
 use Rattle.schedule_rule.proofs.PlacingFactsRecords.{lists-placed, IsPlaced, by-unit, waits-other, in-state-more, saved-more, done-same, live-more, results-placed, begun-placed}
 use Rattle.schedule_rule.proofs.PlacingKindsAgainTable.{after_again, was_run, placing-again, frame-again, only-run, run-left, list-again, again-table}
@@ -248,6 +249,9 @@ module _ (g : Setup) (id : ℕ) (v : View) (m : Mem) (vs : List View) (s : Story
   again-says framed = moves g vs id v at framed s m' after (record {
     saved = by (λ w x. IsFrameOf g.checked s.calls tasks (number_of x) (body_at g.checked (frame_in m w))) is_saved
         (subst (λ (k : ℕ). IsFrameOf g.checked s.calls tasks k (body_at g.checked (frame_in m u))) (sym number-here) framed-there) (l.schedule framed).saved;
+    names = by (λ w x. HoldsNames g.checked (body_at g.checked (frame_in m w))) is_saved
+        (holds-same g.checked (slice_index words) (frame_in m u) (reads-same g.checked words (may.placeable).is_frame (frame_in m u) (frame-again g id v m vs s l at waits_then r d words may in_use n word)) (may.placeable).names)
+        (l.schedule framed).names;
     running = each-set _ (map (seen framed) vs) id runs (l.schedule framed).running (each-dropped _ (is_run_at u) v.runs ((l.schedule framed).running id v.runs (at_map (seen framed) vs id v at)));
   })
   again-says formed = moves g vs id v at formed s m' after (record {

@@ -30,7 +30,7 @@ use Rattle.table_core.proofs.RecordKinds.{state-other}
 use Rattle.schedule_rule.specs.Askers.{asks_for, IsAsker, IsNextOf, HasNext, IsForRecord, AskedSound}
 use Rattle.schedule_rule.specs.Calls.{task_of, after_of, begun as begun_before, IsNumber, IsTaskOf, IsLast, IsComplete}
 use Rattle.schedule_rule.specs.Counts.{lives_in, class_in, CountedSound}
-use Rattle.schedule_rule.specs.Frames.{IsFrameOf, IsFormed, BagSound}
+use Rattle.schedule_rule.specs.Frames.{HoldsNames, IsFrameOf, IsFormed, BagSound}
 use Rattle.schedule_rule.specs.Numbers.{in_hand, in_hands, IsRun}
 use Rattle.schedule_rule.specs.Parts.{Part, rowed, places, askers, framed, formed, owners, results, running, live, classes, behind, begun, bags, seen, Says, AllSay, counted_lives}
 use Rattle.schedule_rule.specs.PlacingViews.{is_drawn, IsPlacedWord, MayPlace}
@@ -38,6 +38,7 @@ use Rattle.schedule_rule.specs.Rows.{RowedSound}
 use Rattle.schedule_rule.proofs.KnownFacts.{seen-task}
 use Rattle.schedule_rule.proofs.PlacingFacts.{dropped-other}
 use Rattle.schedule_rule.proofs.PlacingFactsDrawn.{may-begin, one-drawn, drawn-left, drawn-loses, row-left, first-none, asks-less}
+use Rattle.schedule_rule.proofs.FrontFacts.{holds-same}
 use Rattle.schedule_rule.proofs.PlacingFactsFrames.{first-frame, reads-same, formed-same}
 use Rattle.schedule_rule.proofs.PlacingFactsRecords.{lists-placed, IsPlaced, by-unit, waits-other, in-state-more, saved-more, done-same, live-more, results-placed, begun-placed}
 use Rattle.schedule_rule.proofs.PlacingKindsMadeTable.{ArePast, IsRunPast, after_made, was_made, placing, task-is, frame-is, is_call, some_number, made_few, only-one, not-running, list-same, made-table}
@@ -227,6 +228,9 @@ module _ (g : Setup) (id : ℕ) (v : View) (m : Mem) (vs : List View) (s : Story
   made-says framed = moves g vs id v at framed s m' after (record {
     saved = by (λ w x. IsFrameOf g.checked s.calls tasks (number_of x) (body_at g.checked (frame_in m w))) is_saved
         (subst (λ (k : ℕ). IsFrameOf g.checked s.calls tasks k (body_at g.checked (frame_in m u))) (sym number-here) framed-there) (l.schedule framed).saved;
+    names = by (λ w x. HoldsNames g.checked (body_at g.checked (frame_in m w))) is_saved
+        (holds-same g.checked (slice_index words) (frame_in m u) (reads-same g.checked words (may.placeable).is_frame (frame_in m u) (frame-is g id v m vs s l at waits_then r d call words may runs past runs_fit in_use n word)) (may.placeable).names)
+        (l.schedule framed).names;
     running = each-set _ (map (seen framed) vs) id runs (l.schedule framed).running runs_framed;
   })
   made-says formed = moves g vs id v at formed s m' after (record {

@@ -125,6 +125,7 @@ module _ (g : Setup) (id : ℕ) (v : View) where
     ready-says places = frames g vs id v at places s m' after_ready refl (λ k. omega (arith, l.schedule places k, below-same (in_state now k) (in_state states k) (units_of g.plan) (λ w low. in-state-now k w)))
     ready-says framed = frames g vs id v at framed s m' after_ready refl (record {
       saved = λ w near is. subst (λ (y : ℕ). IsFrameOf g.checked s.calls tasks y (body_at g.checked (frame_in m w))) (sym (number-now w)) ((l.schedule framed).saved w near (sym (saved-now w) ∙ is));
+      names = λ w near is. (l.schedule framed).names w near (sym (saved-now w) ∙ is);
       running = (l.schedule framed).running;
     })
     ready-says formed = frames g vs id v at formed s m' after_ready refl (record { saved = λ w near is. (l.schedule formed).saved w near (sym (saved-now w) ∙ is); running = (l.schedule formed).running })

@@ -110,6 +110,7 @@ module _ (g : Setup) (id : ℕ) (v : View) where
     retire-says c framed = frames g vs id v at framed s (put m (state u) 0) (after_retire c) refl (record {
       saved = λ w low is. let there = sym (saved-now w) ∙ is in
           subst (λ (x : ℕ). IsFrameOf g.checked s.calls (λ y. m (task y)) (number_of x) (body_at g.checked (frame_in m w))) (sym (saved-other w there)) ((l.schedule framed).saved w low there);
+      names = λ w low is. (l.schedule framed).names w low (sym (saved-now w) ∙ is);
       running = (l.schedule framed).running;
     })
     retire-says c formed = frames g vs id v at formed s (put m (state u) 0) (after_retire c) refl (record {

@@ -67,6 +67,7 @@ module _ (g : Setup) (m : Mem) (vs : List View) (s : Story) (l : (q : Part) → 
       (record { asker = each-none _; made = each-none _; unplaced = each-none _; one = each-none _; asked = each-none _ })
   split_parts framed = record {
     saved = (l framed).saved;
+    names = (l framed).names;
     running = each-both framed (Each (λ (r : Run). IsFrameOf g.checked s.calls (λ u. m (task u)) r.number (body_at g.checked (slice_index r.words)))) (l framed).running
         ((l framed).running id (seen framed v) (at_map (seen framed) vs id v at)) (each-none _);
   }

@@ -94,6 +94,7 @@ module _ (g : Plan) (states states' : ℕ → ℕ) (alike : AreAlike states stat
   framed-alike p calls tasks words vs was = record {
     saved = λ u near is. let there = sym (alike.saved u) ∙ is in
         subst (λ (x : ℕ). Rattle.schedule_rule.specs.Frames.IsFrameOf p calls tasks (number_of x) (body_at p (words u))) (sym (alike.same u (saved-record (states u) there))) (was.saved u near there);
+    names = λ u near is. was.names u near (sym (alike.saved u) ∙ is);
     running = was.running;
   }
 

@@ -31,7 +31,7 @@ use Rattle.table_core.specs.Steps.{Stepped}
 use Rattle.schedule_rule.specs.Askers.{asks_for, IsAsker, IsForRecord, AskedSound}
 use Rattle.schedule_rule.specs.Calls.{task_in, after_in, task_of, after_of, IsNumber, IsTaskOf, IsLast, IsComplete, IsSo}
 use Rattle.schedule_rule.specs.Counts.{class_in}
-use Rattle.schedule_rule.specs.Frames.{front, IsFormed, IsFrameOf, BagSound}
+use Rattle.schedule_rule.specs.Frames.{HoldsNames, front, IsFormed, IsFrameOf, BagSound}
 use Rattle.schedule_rule.specs.LifeViews.{MayStart}
 use Rattle.schedule_rule.specs.Numbers.{in_hand, in_state, saved_at, done_with, in_hands, is_begun}
 use Rattle.schedule_rule.specs.Results.{SaysOutcome}
@@ -42,6 +42,7 @@ use Rattle.schedule_rule.proofs.FrameFacts.{front-same, frame-words}
 use Rattle.schedule_rule.proofs.PoolKinds.{glances-at}
 use Rattle.schedule_rule.proofs.RecordKinds.{has-more}
 use Rattle.schedule_rule.proofs.Rule.{frames, moves, same-story}
+use Rattle.schedule_rule.proofs.FrontFacts.{holds-same}
 use Rattle.schedule_rule.proofs.SoundFacts.{has-way}
 use Rattle.schedule_rule.proofs.StoryFacts.{task-of-number}
 use Rattle.schedule_rule.proofs.TakenFrames.{number-has, frame-of_call}
@@ -181,6 +182,10 @@ module _ (g : Setup) (id : ℕ) (v : View) (m : Mem) (vs : List View) (s : Story
   way-here : BodyHasWay g.checked (body_at g.checked (slice_index its_run.words))
   way-here = has-way g.checked s.calls tasks taken_number (body_at g.checked (slice_index its_run.words)) frame-here
 
+  -- what is held there names units
+  names-here : HoldsNames g.checked (body_at g.checked (slice_index its_run.words))
+  names-here = holds-same g.checked (frame_in m u) (slice_index its_run.words) (same-words g id v m vs s l at u near in_use n was is numbered shape) ((l.schedule framed).names u near was_saved)
+
   -- the predecessor is over, and the pass knows it
   over-so : (o : Option ℕ) (is_over : IfSome o (IsComplete s.ends)) → Each (IsSo s.calls s.ends) (over-facts s.ends o is_over)
   over-so None is_over = each-none _
@@ -221,6 +226,7 @@ module _ (g : Setup) (id : ℕ) (v : View) (m : Mem) (vs : List View) (s : Story
   }))
   take-says framed = moves g vs id v at framed s m' new_view (record {
     saved = λ w low saved. subst (λ (x : ℕ). IsFrameOf g.checked s.calls tasks x (body_at g.checked (frame_in m w))) (sym (numbers-same w)) ((l.schedule framed).saved w low (saved-before w saved));
+    names = λ w low saved. (l.schedule framed).names w low (saved-before w saved);
     running = each-set _ (map (seen framed) vs) id (its_run ∷ v.runs) (l.schedule framed).running (each-cons _ its_run v.runs frame-here ((l.schedule framed).running id v.runs (at_map (seen framed) vs id v at)));
   })
   take-says formed = moves g vs id v at formed s m' new_view (record {
@@ -304,6 +310,7 @@ module _ (g : Setup) (id : ℕ) (v : View) (m : Mem) (vs : List View) (s : Story
     formed = formed-here;
     fits = omega (arith, fits-in g id v m vs s l at u near in_use n was is numbered shape, ap (frame_length g.checked) (first-same g id v m vs s l at u near in_use n was is numbered shape));
     way = way-here;
+    names = names-here;
     few = names-are_few g id v m vs s l at u near in_use n was is numbered shape;
     near = names-near g id v m vs s l at u near in_use n was is numbered shape;
     suits = let has = number-has s.calls taken_number its_call at-number in l.schedule suited has.0 its_call has.1;

@@ -9,6 +9,7 @@ use Rattle.task_syntax.specs.Valid.{Held}
 use Rattle.task_syntax.specs.declared.program.State.{State}
 use Rattle.task_syntax.specs.declared.program.Program.{Program}
 use Rattle.task_meaning.specs.Frame.{CallOf, state_at}
+use Rattle.task_meaning.specs.Meant.{future_at}
 use Rattle.task_meaning.specs.Worths.{Accepted, OfCall, OfAll}
 use Rattle.frame_code.specs.Frames.{frame_length, IsFrame}
 use Rattle.frame_code.specs.Words.{BodyOf, OfKind, OfMembers, words_from, body_at}
@@ -20,6 +21,12 @@ use Rattle.table_core.specs.Lists.{Each}
 use Rattle.table_core.specs.Holdings.{Run}
 use Rattle.schedule_rule.specs.Calls.{AtNumber, task_of, begun}
 
+-- Each future that is held where the frame stands, on each way to there, names a unit. So it can be passed, read or given up by what the
+-- words say. An aggregate's frame names all its members.
+abbrev pub HoldsNames : Program → BodyOf ℕ → Type 0
+HoldsNames p (OfKind q) = (x : ℕ) (state : State) → state_at p q.kind q.state ≡ Some state → Held state q.at x → (unit : ℕ) × (future_at q.futures x ≡ Some unit)
+HoldsNames p (OfMembers units next) = Unit {0}
+
 module _ (p : Program) (calls : List Accepted) (tasks : ℕ → ℕ) where
   -- The number's task is a call of the frame's kind, and the frame stands where a way arrives: without one, all futures would
   -- count as held. The task of an aggregate's frame is an aggregate of the members that it names, the next of which is the one
@@ -30,6 +37,8 @@ module _ (p : Program) (calls : List Accepted) (tasks : ℕ → ℕ) where
 
   pub record FramedSound (g : Plan) (states : ℕ → ℕ) (words : ℕ → ℕ → ℕ) (vs : List (List Run)) : Type 0 where
     pub saved : (u : ℕ) → u < units_of g → is_saved (states u) ≡ true → IsFrameOf (number_of (states u)) (body_at p (words u))
+    -- and what is held there names records
+    pub names : (u : ℕ) → u < units_of g → is_saved (states u) ≡ true → HoldsNames p (body_at p (words u))
     pub running : Each (Each (λ (r : Run). IsFrameOf r.number (body_at p (slice_index r.words)))) vs
 
 -- the first words, as many as the frame with their control word has

@@ -25,5 +25,6 @@ pub mod SeeingLaws
 pub mod NamingLaws
 pub mod CoveringLaws
 pub mod CoveringMoves
+pub mod HeldNames
 pub mod StartLaws
 pub mod OverLaws

@@ -20,6 +20,7 @@ use Rattle.table_core.specs.Story.{IsAccepted}
 use Rattle.table_core.specs.WaitViews.{is_run_at, new_waiter}
 use Rattle.table_core.specs.declared.view.View.{View}
 use Rattle.schedule_rule.specs.DrawViews.{changed}
+use Rattle.schedule_rule.specs.Frames.{HoldsNames}
 use Rattle.schedule_rule.specs.LifeViews.{MayStart, answers_left}
 
 -- the list without one of each of these numbers
@@ -95,7 +96,7 @@ pub record IsPlacedWord (waits : Bool) (number word : ℕ) : Type 0 where
   pub shape : IsStateWord word
 
 -- The number d is drawn and its rows are written. The words are a frame of the program, which the record at u is known to have, and
--- the hand has a reference for each unit that they name.
+-- the hand has a reference for each unit that they name. Each future that is held where the frame stands names one.
 pub record IsPlaceable (p : Program) (v : View) (u : ℕ) (d : Drawn) (words : List ℕ) : Type 0 where
   pub drawn : Has d v.drawn
   pub task_row : times d.number v.no_task ≡ 0
@@ -103,6 +104,7 @@ pub record IsPlaceable (p : Program) (v : View) (u : ℕ) (d : Drawn) (words : L
   pub is_frame : IsFrame p words
   pub known : (j : ℕ) → j < length words → known_in (frame u j) v.known ≡ Some (slice_index words j)
   pub held : (w : ℕ) → times w (named p (slice_index words)) ≤ times w v.futures
+  pub names : HoldsNames p (body_at p (slice_index words))
 
 -- this unit, where there is one, was seen to be of this task; where there is no task, there is no unit
 abbrev pub WasSeenAs : View → Option ℕ → Option ℕ → Type 0

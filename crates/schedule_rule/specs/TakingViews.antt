@@ -17,7 +17,7 @@ use Rattle.table_core.specs.Views.{saw}
 use Rattle.table_core.specs.declared.setup.Setup.{Setup}
 use Rattle.table_core.specs.declared.view.View.{View}
 use Rattle.schedule_rule.specs.Calls.{task_in, Suits}
-use Rattle.schedule_rule.specs.Frames.{IsFormed, BagSound}
+use Rattle.schedule_rule.specs.Frames.{HoldsNames, IsFormed, BagSound}
 use Rattle.schedule_rule.specs.LifeViews.{knowing, MayStart}
 use Rattle.schedule_rule.specs.Parts.{bags, seen}
 
@@ -71,6 +71,8 @@ pub record IsTakenFrame (g : Setup) (unit class : ℕ) (call : Accepted) (ws : L
   pub formed : IsFormed g.checked (slice_index ws)
   pub fits : frame_length g.checked (slice_index ws 0) ≤ 8 * block_units class
   pub way : BodyHasWay g.checked (body_at g.checked (slice_index ws))
+  -- each future that is held there names a unit
+  pub names : HoldsNames g.checked (body_at g.checked (slice_index ws))
   -- it names few units, all of the table
   pub few : length (named g.checked (slice_index ws)) ≤ 63
   pub near : Each (λ x. x < units_of g.plan) (named g.checked (slice_index ws))

@@ -5,6 +5,9 @@ ghost use Rattle.schedule_rule.specs.LifeLaws.{ListStepsKeep, LivingStepsKeep, R
 ghost use Rattle.schedule_rule.specs.PlacingLaws.{MadePlacingsKeep, NextPlacingsKeep};
 ghost use Rattle.schedule_rule.specs.CoveringLaws.{MoreCover, FewerRunsCover, ActsCover, ActsMove};
 ghost use Rattle.schedule_rule.specs.CoveringMoves.{LinesCover, ReadsCover, CopiesCover, DropsCover};
+ghost use Rattle.schedule_rule.specs.HeldNames.{LinesHoldNames, ReadsHoldNames, PutsHoldNames};
+ghost use Rattle.schedule_rule.specs.HeldNames.{DropsHoldNames, EnteredHoldNames, EntriesHoldNames};
+ghost use Rattle.schedule_rule.specs.HeldNames.{ActsNameUnits, SpawnsMayPass};
 ghost use Rattle.schedule_rule.specs.SeeingLaws.{TaskLoadsKeep, KnownLoadsKeep, WaiterStepsKeep};
 ghost use Rattle.schedule_rule.specs.NamingLaws.{RootStepsKeep};
 ghost use Rattle.schedule_rule.specs.SoundViews.{SoundViews};
@@ -68,6 +71,25 @@ pub fn references_cover_moves()
     ensures reads { ReadsCover }
     ensures copies { CopiesCover }
     ensures drops { DropsCover }
+{}
+
+/// Where each future that a frame holds names a record, each does so wherever the frame moves: over
+/// lines, past a read, past an act that puts a future into a variable, and past a drop.
+pub fn held_names_move()
+    ensures lines { LinesHoldNames }
+    ensures reads { ReadsHoldNames }
+    ensures puts { PutsHoldNames }
+    ensures drops { DropsHoldNames }
+{}
+
+/// In a valid program each future that a frame holds names a record where a task begins with what
+/// its kind asks for, and where it enters a next state. So does each future that an act asks for,
+/// and what a spawn asks for may be passed.
+pub fn held_names_begin()
+    ensures entered { EnteredHoldNames }
+    ensures entries { EntriesHoldNames }
+    ensures acts { ActsNameUnits }
+    ensures passes { SpawnsMayPass }
 {}
 
 /// The loads that tell of tasks, those that tell what is known already, and the store that makes a

@@ -31,7 +31,7 @@ use Rattle.table_records.specs.Makers.{IsMaker, words_of, placement_by}
 use Rattle.table_records.specs.Plain.{call_behind, plain_words}
 use Rattle.table_records.specs.Records.{Spawned, Spawns}
 use Rattle.table_records.specs.Stages.{made_of, with_first_words, Drafts}
-use Rattle.table_records.proofs.PlainFacts.{words-frame, names-none, first-frame}
+use Rattle.table_records.proofs.PlainFacts.{words-frame, frame-names, names-none, first-frame}
 use Rattle.table_records.proofs.StageFacts.{maker-stays, made-first}
 
 -- a run that asked is looked up with one number more to place
@@ -117,6 +117,7 @@ module _ (g : Setup) (maker : Started) (u n : ℕ) (behind : Option ℕ) (w v0 :
       is_frame = words-frame g.checked is.plain.0;
       known = λ j low. known-frame u n j v0.known low;
       held = λ x. omega (arith, ap (times x) (names-none g.checked is.plain.0));
+      names = frame-names g.checked is.plain.0;
     };
     references_known = known-refs u n v0.known;
     head_known = known-head u n v0.known;

@@ -1,24 +1,26 @@
 -- What the frames and calls of a kind without variables are.
-use Rattle.std.proofs.Common.{◌≡◌, ◌∙◌, ℕ, ◌+◌, ◌<◌, Bool, true, false, cond, Option, Some, None, List, [], ◌∷◌, length, refl, sym, ap, subst, arith}
+use Rattle.std.proofs.Common.{◌≡◌, ◌∙◌, ℕ, ◌+◌, ◌<◌, Bool, true, false, cond, Option, Some, None, List, [], ◌∷◌, length, refl, sym, ap, subst, true≢false, arith}
 use Rattle.std.specs.Prelude.{slice_get, slice_index}
 use Rattle.std.proofs.lemmas.Option.{none-some, same_Some}
 use Rattle.record_core.proofs.TotalFacts.{none_there}
-use Rattle.task_syntax.specs.Facts.{at_start}
+use Rattle.task_syntax.specs.Facts.{has, at_start}
 use Rattle.task_syntax.specs.Valid.{starts}
 use Rattle.task_syntax.specs.declared.program.Kind.{Kind}
 use Rattle.task_syntax.specs.declared.program.Variable.{Variable}
 use Rattle.task_syntax.specs.declared.program.Program.{Program}
+use Rattle.task_syntax.specs.declared.program.State.{State}
 use Rattle.task_meaning.specs.Frame.{variables_in, variables_of, state_in, state_at, code_in, holds_at, padded, kept, entry}
 use Rattle.kt_words.specs.Capacity.{class_for}
 use Rattle.frame_code.specs.Control.{is_aggregate}
 use Rattle.frame_code.specs.Frames.{IsFrame}
 use Rattle.frame_code.specs.Names.{present, named, names_of}
 use Rattle.frame_code.specs.Ways.{HasWay, BodyHasWay}
-use Rattle.frame_code.specs.Words.{OfKind, OfMembers, variable_list, variables_at, number_count, futures_from, kind_frame, frame_at, members_at, body_at}
+use Rattle.frame_code.specs.Words.{BodyOf, OfKind, OfMembers, variable_list, variables_at, number_count, futures_from, kind_frame, frame_at, members_at, body_at}
 use Rattle.frame_code.specs.Control.{control_kind, control_at}
 use Rattle.table_core.specs.declared.view.View.{View}
 use Rattle.schedule_rule.specs.Calls.{Suits}
 use Rattle.schedule_rule.specs.Counts.{class_in}
+use Rattle.schedule_rule.specs.Frames.{HoldsNames}
 use Rattle.schedule_rule.specs.PlacingViews.{IsFirstFrame}
 use Rattle.schedule_rule.specs.TakingViews.{IsOfCall}
 use Rattle.table_records.specs.Plain.{IsPlainKind, plain_call, call_behind, plain_frame, plain_words}
@@ -49,6 +51,12 @@ module _ (p : Program) (plain : IsPlainKind p) where
 
   state-is : state_at p 0 0 ≡ Some plain.state
   state-is = ap (λ (k : Option Kind). state_in k 0) plain.kind_there ∙ plain.state_there
+
+  -- nothing is held there, so there is nothing that it would have to name
+  pub frame-names : HoldsNames p (body_at p (slice_index plain_words))
+  frame-names = subst (λ (b : BodyOf ℕ). HoldsNames p b) (sym body-is) (λ x state is held.
+      let none : has x state.holds ≡ false = ap (λ (s : State). has x s.holds) (same_Some state plain.state (sym is ∙ state-is)) ∙ ap (has x) plain.holds_none in
+      absurd (true≢false (sym (held (at_start state) starts) ∙ none)))
 
   -- its words are a frame of the program
   pub words-frame : IsFrame p plain_words

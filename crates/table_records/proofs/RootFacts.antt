@@ -33,7 +33,7 @@ use Rattle.table_records.specs.Plain.{IsPlain, call_behind, plain_words}
 use Rattle.table_records.specs.Makers.{IsMaker}
 use Rattle.table_records.specs.Openings.{RootDrafts, RootRuns}
 use Rattle.table_records.specs.Stages.{made_of}
-use Rattle.table_records.proofs.PlainFacts.{words-frame, names-none, first-frame, taken-single, taken-names, taken-way}
+use Rattle.table_records.proofs.PlainFacts.{words-frame, frame-names, names-none, first-frame, taken-single, taken-names, taken-way}
 use Rattle.table_records.proofs.PlaceFacts.{known-frame, known-refs, known-head, known-task}
 use Rattle.table_records.proofs.StageFacts.{made-first}
 
@@ -63,6 +63,7 @@ may-place-root g plain made n v0 pass draft class_is room = record {
       is_frame = words-frame g.checked plain.0;
       known = λ j low. known-frame made.unit n j v0.known low;
       held = λ x. omega (arith, ap (times x) (names-none g.checked plain.0));
+      names = frame-names g.checked plain.0;
     };
     references_known = known-refs made.unit n v0.known;
     head_known = known-head made.unit n v0.known;

@@ -7,7 +7,7 @@ use Rattle.task_syntax.specs.declared.program.State.{State}
 use Rattle.task_meaning.specs.Frame.{FrameOf, CallOf}
 use Rattle.task_meaning.specs.Worths.{Accepted, OfCall}
 
--- the first kind has no variables, and its first state has code
+-- the first kind has no variables, and its first state holds none and has code
 pub record IsPlainKind (p : Program) : Type 0 where
   pub kind : Kind
   pub kind_there : slice_get p.kinds 0 ≡ Some kind
@@ -15,6 +15,7 @@ pub record IsPlainKind (p : Program) : Type 0 where
   pub no_variables : kind.variables ≡ []
   pub state : State
   pub state_there : slice_get kind.states 0 ≡ Some state
+  pub holds_none : state.holds ≡ []
   pub some_code : 1 ≤ length state.code
 
 -- and the first root is a task of that kind, behind none

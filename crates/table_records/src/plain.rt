@@ -4,7 +4,7 @@ ghost use Rattle.table_records.specs.Plain.{IsPlain, IsPlainKind, IsPlainRoot};
 
 use task_syntax::Program;
 
-// Whether the first kind has no variables, and its first state has code.
+// Whether the first kind has no variables, and its first state holds none and has code.
 fn has_plain_kind(program: &Program) -> bool
     ensures { IsTrue result → IsPlainKind program.now }
 {
@@ -14,7 +14,8 @@ fn has_plain_kind(program: &Program) -> bool
     let Some(state) = kind.states.get(0) else {
         return false;
     };
-    kind.arguments == 0 && kind.variables.len() == 0 && state.code.len() > 0
+    let bare = kind.arguments == 0 && kind.variables.len() == 0;
+    bare && state.holds.len() == 0 && state.code.len() > 0
 }
 
 // Whether the first root is a task of that kind, behind none.

@@ -159,6 +159,7 @@ module _ (g : Plan) (u : ℕ) (waiter : Linkable) (old : View) (now new : Pass) 
       only = each-cons _ (head u, packed_head word) ((next w, wins.found) ∷ joining.steps) (inl refl) (each-cons _ (next w, wins.found) joining.steps (inr refl) joining.on_list.only);
       sights = joining.on_list.sights;
     };
+    looked = (packed_head word, (0, refl));
     unclosed = not-cons (head u, closed_word) (head u, packed_head word) ((next w, wins.found) ∷ joining.steps) (pair-apart u (head u, packed_head word) opened)
         (not-cons (head u, closed_word) (next w, wins.found) joining.steps (head-next u w wins.found) unclosed-yet);
     view_is = ap (λ (v : View). saw (head u) (packed_head word) (joined_list w (relinked w wins.found (packed_head word) v))) joining.view_is

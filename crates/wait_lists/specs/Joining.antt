@@ -68,10 +68,11 @@ pub record OnList (u w : ℕ) (old new : View) (steps : List (Addr × ℕ)) : Ty
   pub only : Each (IsListStep u w) steps
   pub sights : (more : List Sight) × (new.sights ≡ more ++ old.sights)
 
--- the waiter has left the hand into the list, whose head was never found closed
+-- the waiter has left the hand into the list, whose head was found, and never closed
 pub record Waits (u w : ℕ) (old new : View) : Type 0 where
   pub steps : List (Addr × ℕ)
   pub on_list : OnList u w old new steps
+  pub looked : (word : ℕ) × Has (head u, word) steps
   pub unclosed : ¬ Has (head u, closed_word) steps
   pub view_is : new ≡ record old { waiting = dropped (is_waiter_at w) old.waiting; sights = new.sights; seen = new.seen; tries = new.tries }
 
