@@ -71,7 +71,7 @@ taking-starts g all old has = record {
 }
 
 -- a member of the second part is one of the whole
-part-has : {A : Type 0} (P : A → Type 0) (more rest : List A) → Each P (more ++ rest) → Each P rest
+pub part-has : {A : Type 0} (P : A → Type 0) (more rest : List A) → Each P (more ++ rest) → Each P rest
 part-has P [] rest all = all
 part-has P (x ∷ more) rest all = part-has P more rest (λ k y at. all (suc k) y at)
 
@@ -148,7 +148,7 @@ dropping-starts g all old may = record {
 }
 
 -- references that are given up in two parts
-less-parts : (l more rest : List ℕ) → less l (more ++ rest) ≡ less (less l more) rest
+pub less-parts : (l more rest : List ℕ) → less l (more ++ rest) ≡ less (less l more) rest
 less-parts l [] rest = refl
 less-parts l (x ∷ more) rest = less-parts (dropped (is_at x) l) more rest
 

@@ -34,7 +34,7 @@ pub join-waits : (g : Setup) (unit : ℕ) (behind : Behind) (old new : View) →
 join-waits g unit behind old new waits sound = record {
   steps = waits.steps;
   since = waits.on_list.since;
-  enters = tt;
+  enters = (waits.looked, waits.unclosed);
   facts = ([], ap (λ (v : View). v.facts) waits.view_is);
   sights = waits.on_list.sights;
   sound = sound;

@@ -25,12 +25,14 @@ use Rattle.step_table.specs.PlacingSteps.{placed_next}
 use Rattle.step_table.specs.RecordHands.{RunAt, HasFuture, MayLessen}
 use Rattle.future_refs.specs.Drops.{GivesBack}
 use Rattle.wait_lists.specs.Joining.{MayJoin}
-use Rattle.schedule_core.specs.Behinds.{JoinsBehind, EntersClosed}
+use Rattle.schedule_core.specs.Making.{JoinsBehind, EntersClosed}
 use Rattle.schedule_core.specs.FrameWords.{WritesFrame}
 use Rattle.schedule_core.specs.NextPlaces.{MayPlaceFrame, IsPlacedAgain, EntersAgain, PlacesAgain}
-use Rattle.schedule_core.proofs.JoinedBehind.{has-grown}
+use Rattle.schedule_core.proofs.Joining.{has-grown}
 use Rattle.schedule_core.proofs.LessParts.{less-added}
-use Rattle.schedule_core.proofs.NextPlaceFacts.{has-left, kept-has, may-referred, unit-near, placed-view, placed-sights, placed-facts, placed-seen}
+use Rattle.schedule_core.proofs.KeptSights.{kept-has}
+use Rattle.schedule_core.proofs.Placing.{has-before}
+use Rattle.schedule_core.proofs.NextPlaceFacts.{may-referred, unit-near, placed-view, placed-sights, placed-facts, placed-seen}
 
 -- The task is t, and its record at b.
 module _ (g : Setup) (u n b t found : ℕ) (words : List ℕ) (v cloned w : View) (may : MayPlaceFrame g u n (Some t) words v) (is : cloned ≡ saw (refs b) found (referred b v)) (wrote : WritesFrame u words cloned w) where
@@ -109,7 +111,7 @@ module _ (g : Setup) (u n b t found : ℕ) (words : List ℕ) (v cloned w : View
       );
     }
 
-    module _ (told : Option Entry) (y : View) (joined : JoinsBehind g u b x told y) where
+    module _ (told : Option Entry) (y : View) (joined : JoinsBehind g u (record { unit = b; task = t }) x told y) where
       -- the reference may be given up again
       pub may-drop : HasFuture g.plan b v → MayLessen g b y
       may-drop has = record {
@@ -147,7 +149,7 @@ module _ (g : Setup) (u n b t found : ℕ) (words : List ℕ) (v cloned w : View
         enters-all priority task (Some e) enters = (
           enters.0,
           enters.1 (new_waiter u n) (ap (λ (s : View). waiter_in u s.waiting) (placed the_run may.at) ∙ ap (λ (c : Bool). cond c (Some (new_waiter u n)) (waiter_in u cloned.waiting)) (eq-eqb u u refl)),
-          inr (record { unit = b; task = task }, refl, has-grown (head b, closed_word) gives.steps steps-joined steps-all refl (has-left (head b, closed_word) joined.steps steps-left enters.2)),
+          inr (record { unit = b; task = task }, refl, has-grown (head b, closed_word) steps-joined steps-all gives.steps refl (has-before (head b, closed_word) joined.steps steps-left enters.2)),
         )
 
         view-placed : IsPlacedAgain g u n words v z

@@ -2,7 +2,8 @@
 use Rattle.std.proofs.Common.{◌≡◌, ◌∙◌, ℕ, suc, Bool, false, cond, Option, Some, None, List, [], ◌∷◌, ◌++◌, refl, sym, ap, subst, append_assoc, arith}
 use Rattle.std.specs.Prelude.{IfSome, slice_index, slice_get}
 use Rattle.std.proofs.lemmas.Bool.{eq-eqb}
-use Rattle.record_core.specs.Counting.{times, dropped}
+use Rattle.std.proofs.lemmas.Option.{none-some, same_Some}
+use Rattle.record_core.specs.Counting.{At, times, dropped}
 use Rattle.task_meaning.specs.Worths.{Respawn}
 use Rattle.frame_code.specs.Words.{BodyOf, OfKind, OfMembers, body_at, body_of}
 use Rattle.table_core.specs.Addresses.{Addr, sum, journal, task as task_word}
@@ -23,11 +24,12 @@ use Rattle.step_table.specs.RecordHands.{RunAt, HasFuture}
 use Rattle.step_table.specs.RowSteps.{MayWriteTask, MayWriteAfter, WritesTask, WritesAfter}
 use Rattle.step_table.specs.declared.pass.Pass.{Pass}
 use Rattle.step_table.proofs.LookupFacts.{run-there}
-use Rattle.schedule_core.specs.Behinds.{task_behind, unit_behind, with_behind}
-use Rattle.schedule_core.specs.NextNumbers.{IsOpened, IsTask, MayNumber, SawBehind, KnowsPredecessor, HasNumber, MetLimitNext, drew_next}
+use Rattle.schedule_core.specs.Making.{KnowsPredecessor, task_behind}
+use Rattle.schedule_core.specs.SeenTasks.{unit_behind, with_behind}
+use Rattle.schedule_core.specs.NextNumbers.{IsOpened, IsNextUnit, MayNumber, SawBehind, HasNumber, MetLimitNext, drew_next}
 use Rattle.schedule_core.specs.References.{Grows}
 use Rattle.schedule_core.specs.Runs.{IsSameKind, IsInStep}
-use Rattle.schedule_core.specs.declared.behinds.Behind.{Behind}
+use Rattle.schedule_core.specs.declared.making.Behind.{Behind}
 use Rattle.schedule_core.specs.declared.running.Running.{Running}
 
 -- a running task may be told that the limit is met
@@ -49,17 +51,24 @@ load-met g task before new t = record {
   });
 }
 
--- what an activation is behind is known, where it is a task's
-next-known : (a b : BodyOf ℕ) (behind : Option ℕ) (v : View) → IsSameKind a b → IsTask b → IfSome behind (KnowsTask v) → NextBehind v behind a
-next-known (OfKind q) (OfKind now) behind v same single knows = knows
-next-known (OfKind q) (OfMembers units at) behind v same single knows = absurd same
-next-known (OfMembers units next) (OfKind now) behind v same single knows = absurd same
-next-known (OfMembers units next) (OfMembers us at) behind v same single knows = absurd single
-
 -- the predecessor's task was seen just now, if there is one
 behind-known : (behind : Option Behind) (v : View) → IfSome (task_behind behind) (KnowsTask (with_behind behind v))
 behind-known None v = tt
 behind-known (Some b) v = (b.unit, (0, refl))
+
+-- what an activation is behind is known: an aggregate's is the next member, whose task was seen just now
+next-known : (a b : BodyOf ℕ) (wanted : Option ℕ) (behind : Option Behind) (v : View) → IsSameKind a b → IsNextUnit wanted b → unit_behind behind ≡ wanted → NextBehind (with_behind behind v) (task_behind behind) a
+next-known (OfKind q) (OfKind now) wanted behind v same next is = behind-known behind v
+next-known (OfKind q) (OfMembers units at) wanted behind v same next is = absurd same
+next-known (OfMembers units next) (OfKind now) wanted behind v same next' is = absurd same
+next-known (OfMembers units next) (OfMembers us at) wanted None v same there is = absurd (none-some (there.0) (is ∙ there.2))
+next-known (OfMembers units next) (OfMembers us at) wanted (Some b) v same there is = (
+  b.unit,
+  b.task,
+  subst (λ (u : ℕ). At units next u) (same_Some there.0 b.unit (sym there.2 ∙ sym is)) (subst (λ (l : List ℕ). At l next there.0) same.0 (subst (λ (k : ℕ). At us k there.0) same.1 there.1)),
+  (0, refl),
+  refl,
+)
 
 -- a view is as before but for what was seen of the predecessor
 behind-runs : (behind : Option Behind) (v : View) → (with_behind behind v).runs ≡ v.runs
@@ -107,16 +116,16 @@ module _ (g : Setup) (x : Running) (wanted : Option ℕ) (v w : View) (behind : 
   at-run = record { is_block = may.in_step.at.is_block; there = ap (λ l. run_in x.started.unit l) runs-same ∙ may.in_step.at.there }
 
   -- the number may be drawn
-  pub may-draw : MayDrawAgain g x.started.unit x.task (task_behind behind) w
-  may-draw = record {
+  pub may-draw : unit_behind behind ≡ wanted → MayDrawAgain g x.started.unit x.task (task_behind behind) w
+  may-draw behind_is = record {
     permission = ap (λ (z : View). z.may_draw) is ∙ behind-may_draw behind v ∙ ap (λ (z : View). z.may_draw) may.opened.2;
     run = run_is;
     at = at-run;
     task_is = may.in_step.task_is;
     unasked = may.in_step.unasked;
     idle = may.in_step.placed;
-    behind_is = next-known (body_at g.checked (slice_index run_is.words)) (body_of g.checked x.frame.items) (task_behind behind) w may.in_step.same may.single
-        (subst (λ (z : View). IfSome (task_behind behind) (KnowsTask z)) (sym is) (behind-known behind v));
+    behind_is = subst (λ (z : View). NextBehind z (task_behind behind) (body_at g.checked (slice_index run_is.words))) (sym is)
+        (next-known (body_at g.checked (slice_index run_is.words)) (body_of g.checked x.frame.items) wanted behind v may.in_step.same may.next behind_is);
   }
 
   abbrev after : Option ℕ
@@ -241,4 +250,4 @@ module _ (g : Setup) (x : Running) (wanted : Option ℕ) (v w : View) (behind : 
 
 -- whatever the view was before the total was seen
 abbrev pub may-of : (g : Setup) (x : Running) (wanted : Option ℕ) (v base : View) → MayNumber g x wanted v → IsInStep g x base → IsOpened g base v → MayNumber g x wanted v
-may-of g x wanted v base may in_step opened = record { base = base; in_step = in_step; single = may.single; opened = opened; has = may.has }
+may-of g x wanted v base may in_step opened = record { base = base; in_step = in_step; next = may.next; opened = opened; has = may.has }

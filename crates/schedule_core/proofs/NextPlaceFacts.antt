@@ -1,20 +1,16 @@
 -- A running task's next activation is placed with its frame.
-use Rattle.std.proofs.Common.{◌≡◌, ◌∙◌, inl, inr, ℕ, zero, suc, ◌<◌, ◌≤◌, ◌==◌, Bool, true, false, cond, Option, Some, None, List, [], ◌∷◌, ◌++◌, length, refl, sym, ap, subst, arith}
+use Rattle.std.proofs.Common.{◌≡◌, ◌∙◌, inl, inr, ℕ, ◌<◌, Bool, false, Option, Some, None, List, [], ◌∷◌, ◌++◌, length, refl, sym, ap, subst, arith}
 use Rattle.std.specs.Prelude.{slice_index}
-use Rattle.std.proofs.lemmas.Bool.{eqb-true}
-use Rattle.std.proofs.lemmas.Option.{same_Some}
-use Rattle.record_core.specs.Counting.{At, Has, times, dropped}
-use Rattle.record_core.proofs.TotalFacts.{none_there}
+use Rattle.record_core.specs.Counting.{Has, times, dropped}
 use Rattle.kt_words.specs.declared.state_word.StateWord.{StateWord}
 use Rattle.task_syntax.specs.declared.program.Program.{Program}
 use Rattle.task_syntax.specs.declared.value.Priority.{Priority}
-use Rattle.task_syntax.specs.declared.value.Priority.TheVariants.{High, Regular, Low}
 use Rattle.task_meaning.specs.Worths.{Respawn}
 use Rattle.frame_code.specs.Units.{named_in}
 use Rattle.table_core.specs.Addresses.{Addr, state, refs, frame, units_of}
 use Rattle.table_core.specs.Own.{known_in}
 use Rattle.table_core.specs.Asking.{OfTask}
-use Rattle.table_core.specs.Holdings.{Run, Sight, seen_at}
+use Rattle.table_core.specs.Holdings.{Run}
 use Rattle.table_core.specs.RecordViews.{referred}
 use Rattle.table_core.specs.Story.{IsAccepted}
 use Rattle.table_core.specs.Views.{saw}
@@ -34,32 +30,10 @@ use Rattle.step_table.specs.declared.record_tokens.OwnWord.TheVariants as own_wo
 use Rattle.step_table.specs.declared.record_tokens.Started.{Started}
 use Rattle.step_table.proofs.LookupFacts.{run-there}
 use Rattle.step_table.proofs.RecordStepping.{fill-at}
-use Rattle.schedule_core.specs.Entries.{priority_at, entry_of}
+use Rattle.schedule_core.specs.Entries.{entry_of}
 use Rattle.schedule_core.specs.FrameWords.{MayWrite, WritesFrame}
 use Rattle.schedule_core.specs.NextPlaces.{MayPlaceFrame, PlacesAgain}
-
--- a member of the first part of a list
-pub has-left : {A : Type 0} (x : A) (l more : List A) → Has x l → Has x (l ++ more)
-has-left x [] more has = absurd (none_there x has.1)
-has-left x (y ∷ l) more (zero, at) = (0, at)
-has-left x (y ∷ l) more (suc k, at) = let t = has-left x l more (k, at) in (suc t.0, t.1)
-
--- what was seen of a record is kept where a reference to it is left
-pub kept-has : (futures : List ℕ) (ss : List Sight) (s : Sight) → 1 ≤ times (seen_at s) futures → Has s ss → Has s (kept_sights futures ss)
-kept-has futures [] s some has = absurd (none_there s has.1)
-kept-has futures (y ∷ ss) s some (k, at) = by (times (seen_at y) futures == 0) refl k at (λ j there. kept-has futures ss s some (j, there))
-  where
-    by : (b : Bool) → (times (seen_at y) futures == 0) ≡ b → (j : ℕ) → At (y ∷ ss) j s → ((i : ℕ) → At ss i s → Has s (kept_sights futures ss)) → Has s (cond b (kept_sights futures ss) (y ∷ kept_sights futures ss))
-    by true e zero here deeper = absurd (omega (arith, some, eqb-true (times (seen_at y) futures) 0 e, ap (λ (z : Sight). times (seen_at z) futures) (same_Some y s here)))
-    by true e (suc j) later deeper = deeper j later
-    by false e zero here deeper = (0, here)
-    by false e (suc j) later deeper = let t = deeper j later in (suc t.0, t.1)
-
--- the code of a priority tells it
-priority-back : (priority : Priority) (word : StateWord) (n : ℕ) → word ≡ word_placed false n priority → priority_at word.priority ≡ priority
-priority-back High word n is = ap (λ (w : StateWord). priority_at w.priority) is
-priority-back Regular word n is = ap (λ (w : StateWord). priority_at w.priority) is
-priority-back Low word n is = ap (λ (w : StateWord). priority_at w.priority) is
+use Rattle.schedule_core.proofs.Placing.{priority-back}
 
 module _ (g : Setup) (u n : ℕ) (after : Option ℕ) (words : List ℕ) (v : View) (may : MayPlaceFrame g u n after words v) where
   abbrev p : Program
@@ -93,6 +67,7 @@ module _ (g : Setup) (u n : ℕ) (after : Option ℕ) (words : List ℕ) (v : Vi
     frame = may.frame;
     fits = may.fits;
     next = may.next;
+    names = may.names;
     spare = record {
       there = λ y. omega (arith, may.spare.there y, ap (λ (z : View). times y z.futures) is);
       bag = subst (BagSound p) (λ k. record { futures = less (sym is k).futures names; runs = dropped (is_run_at u) (sym is k).runs })
@@ -132,6 +107,7 @@ module _ (g : Setup) (u n : ℕ) (after : Option ℕ) (words : List ℕ) (v : Vi
           is_frame = may.frame;
           known = subst (λ (m : ℕ). (j : ℕ) → j < length words → known_in (frame m j) w.known ≡ Some (slice_index words j)) (sym run-unit) wrote.known;
           held = λ y. omega (arith, may.spare.there y, ap (λ (z : View). times y z.futures) wrote.view_is);
+          names = may.names;
         };
         next = may.next;
         starts = starts;

@@ -33,7 +33,7 @@ use Rattle.schedule_core.specs.Making.{MayOffer, FillsNew, MayPlaceNew, PlacesNe
 use Rattle.schedule_core.specs.declared.making.Behind.{Behind}
 use Rattle.schedule_core.proofs.ChangedRuns.{dropped-changed, first-changed}
 use Rattle.schedule_core.proofs.LessFacts.{less-front}
-use Rattle.schedule_core.proofs.Placing.{enters-more}
+use Rattle.schedule_core.proofs.Placing.{enters-more, waits-more}
 use Rattle.schedule_core.proofs.KeptSights.{kept-has}
 
 -- a frame is the first one of a call in each view with the same sights
@@ -114,6 +114,7 @@ module _ (g : Setup) (made : Made) (number : ℕ) (behind : Option Behind) (word
     is_frame = may.fills.frame;
     known = fills.knows.frame;
     held = λ n. omega (arith, fills.counts n, ap (λ (t : View). times n t.futures) fills.view_is, total-append (λ (y : ℕ). one_if (y == n)) fills.front v.futures);
+    names = may.names;
   }))
 
   -- its number may be placed, where it may start if it does not wait
@@ -173,6 +174,7 @@ module _ (g : Setup) (made : Made) (number : ℕ) (behind : Option Behind) (word
     steps = placed.steps ++ fills.seen.0;
     since = placed.since ∙ ap (λ l. placed.steps ++ l) fills.seen.1 ∙ sym (append_assoc placed.steps fills.seen.0 v.seen);
     enters = enters-more u number behind told.1 placed.steps fills.seen.0 placed.enters;
+    waits = waits-more u behind told.1 placed.steps fills.seen.0 placed.waits;
     facts = (placed.facts.0, placed.facts.1 ∙ ap (λ (t : View). placed.facts.0 ++ t.facts) fills.view_is);
     sees = placed.sees;
     kept = λ s has some. placed.kept s (subst (λ (t : View). Has s t.sights) (sym fills.view_is) has) some;

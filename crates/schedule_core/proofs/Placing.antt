@@ -1,15 +1,16 @@
 -- A new record is placed: it is ready, or it waits and joins the list of its predecessor.
 use Rattle.std.proofs.Common.{◌≡◌, ◌∙◌, inl, inr, ℕ, zero, suc, ◌≤◌, Bool, true, false, cond, Option, Some, None, List, [], ◌∷◌, ◌++◌, refl, sym, ap, subst, append_assoc}
-use Rattle.std.specs.Prelude.{IfSome, slice_get}
+use Rattle.std.specs.Prelude.{slice_get}
 use Rattle.std.proofs.lemmas.Bool.{eq-eqb}
 use Rattle.record_core.specs.Counting.{Has, times, dropped}
 use Rattle.record_core.proofs.TotalFacts.{none_there}
 use Rattle.kt_words.specs.HeadWords.{closed_word}
 use Rattle.kt_words.specs.declared.state_word.StateWord.{StateWord}
 use Rattle.task_syntax.specs.declared.value.Priority.{Priority}
+use Rattle.task_syntax.specs.declared.value.Priority.TheVariants.{High, Regular, Low}
 use Rattle.ready_queues.specs.declared.entry.Entry.{Entry}
 use Rattle.table_core.specs.Addresses.{Addr, head, state}
-use Rattle.table_core.specs.Holdings.{Waiter, Sight, SawTask, seen_at}
+use Rattle.table_core.specs.Holdings.{Sight, SawTask, seen_at}
 use Rattle.table_core.specs.Story.{IsAccepted}
 use Rattle.table_core.specs.WaitViews.{is_waiter_at, new_waiter}
 use Rattle.table_core.specs.declared.setup.Setup.{Setup}
@@ -23,8 +24,8 @@ use Rattle.step_table.specs.declared.pass.Pass.{Pass}
 use Rattle.step_table.specs.declared.record_tokens.Future.{Future}
 use Rattle.step_table.specs.declared.record_tokens.Made.{Made}
 use Rattle.wait_lists.specs.Joining.{MayJoin}
-use Rattle.schedule_core.specs.Entries.{entry_of}
-use Rattle.schedule_core.specs.Making.{MayPlaceNew, Enters, JoinsBehind, PlacesNew}
+use Rattle.schedule_core.specs.Entries.{entry_of, priority_at}
+use Rattle.schedule_core.specs.Making.{MayPlaceNew, Enters, EntersClosed, JoinsBehind, PlacesNew, StaysOpen, WaitsOpen}
 use Rattle.schedule_core.specs.declared.making.Behind.{Behind}
 use Rattle.schedule_core.proofs.Joining.{has-grown}
 use Rattle.schedule_core.proofs.KeptSights.{kept-has}
@@ -40,6 +41,26 @@ pub enters-more : (unit number : ℕ) (behind : Option Behind) (told : Option En
 enters-more unit number behind None steps more enters = enters
 enters-more unit number behind (Some e) steps more (unit_is, number_is, inl none) = (unit_is, number_is, inl none)
 enters-more unit number behind (Some e) steps more (unit_is, number_is, inr (b, is, closed)) = (unit_is, number_is, inr (b, is, has-before (head b.unit, closed_word) steps more closed))
+
+-- the code of a priority tells it
+pub priority-back : (priority : Priority) (word : StateWord) (n : ℕ) → word ≡ word_placed false n priority → priority_at word.priority ≡ priority
+priority-back High word n is = ap (λ (w : StateWord). priority_at w.priority) is
+priority-back Regular word n is = ap (λ (w : StateWord). priority_at w.priority) is
+priority-back Low word n is = ap (λ (w : StateWord). priority_at w.priority) is
+
+-- a list that stayed open did so with more steps before
+stays-more : (unit u : ℕ) (steps more : List (Addr × ℕ)) → StaysOpen unit u steps → StaysOpen unit u (steps ++ more)
+stays-more unit u steps more s = record {
+  later = s.later;
+  before = s.before ++ more;
+  found = s.found;
+  parts = ap (λ (l : List (Addr × ℕ)). l ++ more) s.parts ∙ append_assoc s.later ((state unit, s.found) ∷ s.before) more;
+  unclosed = s.unclosed;
+}
+
+pub waits-more : (unit : ℕ) (behind : Option Behind) (told : Option Entry) (steps more : List (Addr × ℕ)) → WaitsOpen unit behind told steps → WaitsOpen unit behind told (steps ++ more)
+waits-more unit None told steps more waits = tt
+waits-more unit (Some b) told steps more waits = λ none. stays-more unit b.unit steps more (waits none)
 
 -- what was seen is kept of records to which a reference is left
 kept-placed : (waits : Bool) (g : Setup) (made : Made) (number : ℕ) (x : Placement) (old new : Pass) → PlacesMade g waits made number x old new → (s : Sight) → Has s (view old).sights
@@ -57,6 +78,7 @@ places-ready g made number unit behind x priority old new word future none unit_
   steps = (state made.unit, places.found) ∷ [];
   since = ap (λ (v : View). v.seen) places.view_is;
   enters = (unit_is, ap (λ (w : StateWord). w.number) word_is, inl none);
+  waits = subst (λ (o : Option Behind). WaitsOpen made.unit o (Some (entry_of unit word)) ((state made.unit, places.found) ∷ [])) (sym none) tt;
   facts = ([], ap (λ (v : View). v.facts) places.view_is);
   sees = (0, ap (λ (v : View). slice_get v.sights 0) places.view_is);
   kept = kept-placed false g made number x old new places;
@@ -112,6 +134,13 @@ module _ (g : Setup) (made : Made) (number : ℕ) (x : Placement) (b : Behind) (
     steps = joined.steps ++ ((state u, places.found) ∷ []);
     since = joined.since ∙ ap (λ (v : View). joined.steps ++ v.seen) places.view_is ∙ sym (append_assoc joined.steps ((state u, places.found) ∷ []) (view old).seen);
     enters = enters-more u number behind told joined.steps ((state u, places.found) ∷ []) (by told joined.enters);
+    waits = subst (λ (o : Option Behind). WaitsOpen u o told (joined.steps ++ ((state u, places.found) ∷ []))) (sym is) (λ none. record {
+      later = joined.steps;
+      before = [];
+      found = places.found;
+      parts = refl;
+      unclosed = subst (λ (o : Option Entry). EntersClosed u b.unit (view mid) o joined.steps) none joined.enters;
+    });
     facts = (joined.facts.0, joined.facts.1 ∙ ap (λ (v : View). joined.facts.0 ++ v.facts) places.view_is);
     kept = λ s has some. has-grown s (view mid).sights new.sights joined.sights.0 joined.sights.1 (kept-placed true g made number x old mid places s has
         (subst (λ (l : List ℕ). 1 ≤ times (seen_at s) l) (ap (λ (v : View). v.futures) joined.view_is) some));
@@ -131,7 +160,6 @@ module _ (g : Setup) (made : Made) (number : ℕ) (x : Placement) (b : Behind) (
       joined : JoinsBehind g u b (view mid) told new
       joined = subst (λ (w : ℕ). JoinsBehind g w b (view mid) told new) unit_is joined'
 
-      by : (o : Option Entry) → IfSome o (λ e. (e.unit ≡ u) × ((w : Waiter) → waiter_in u (view mid).waiting ≡ Some w → e.number ≡ w.number) × Has (head b.unit, closed_word) joined.steps)
-          → Enters u number behind o joined.steps
+      by : (o : Option Entry) → EntersClosed u b.unit (view mid) o joined.steps → Enters u number behind o joined.steps
       by None t = (b, is)
       by (Some e) t = (t.0, t.1 (new_waiter u number) its-waiter, inr (b, is, t.2))

@@ -2,8 +2,8 @@
 use Rattle.std.proofs.Common.{◌≡◌, ◌∙◌, inl, inr, ℕ, zero, suc, ◌+◌, ◌^◌, ◌<◌, ◌≤◌, ◌==◌, Bool, cond, Option, Some, None, List, [], ◌∷◌, ◌++◌, length, refl, sym, ap, subst, append_assoc, arith}
 use Rattle.std.specs.Prelude.{IfSome, slice_get, slice_index}
 use Rattle.std.proofs.lemmas.Bool.{eq-eqb}
-use Rattle.std.proofs.lemmas.Option.{none-some, same_Some}
-use Rattle.record_core.specs.Counting.{Has, times, one_if, dropped}
+use Rattle.std.proofs.lemmas.Option.{none-some, same_Some, slice_get_within}
+use Rattle.record_core.specs.Counting.{At, Has, times, one_if, dropped}
 use Rattle.record_core.proofs.CountFacts.{times-some}
 use Rattle.record_core.proofs.TotalFacts.{total-append, total-member}
 use Rattle.kt_words.specs.declared.plan.Plan.{Plan}
@@ -21,8 +21,10 @@ use Rattle.frame_code.specs.Units as units
 use Rattle.frame_code.specs.Ways.{BodyHasWay}
 use Rattle.frame_code.specs.Words.{BodyOf, OfKind, OfMembers, body_at, body_of}
 use Rattle.frame_code.specs.declared.act.RespawnRequest.{RespawnRequest}
+use Rattle.frame_code.specs.Members.{member_act}
+use Rattle.frame_code.specs.declared.act.Act.{Act}
 use Rattle.frame_code.specs.declared.act.Act.TheVariants as act
-use Rattle.frame_code.proofs.AllowedMoves.{stop-allows}
+use Rattle.frame_code.proofs.AllowedMoves.{stop-allows, member-allows}
 use Rattle.table_core.specs.Addresses.{Addr, units_of}
 use Rattle.table_core.specs.Asking.{OfTask}
 use Rattle.table_core.specs.Holdings.{Run}
@@ -34,7 +36,7 @@ use Rattle.table_core.specs.declared.view.View.{View}
 use Rattle.table_core.proofs.BagFacts.{one-here}
 use Rattle.table_core.proofs.ReferenceBound.{units-few}
 use Rattle.schedule_rule.specs.DrawViews.{ask_again, asking_again, drawn_for}
-use Rattle.schedule_rule.specs.Frames.{BagSound}
+use Rattle.schedule_rule.specs.Frames.{HoldsNames, BagSound}
 use Rattle.schedule_rule.specs.LifeViews.{answers_left}
 use Rattle.schedule_rule.specs.PlacingViews.{less, is_drawn, IsNextFrame}
 use Rattle.schedule_rule.specs.SoundViews.{SoundRecords, IsRunFrame}
@@ -44,18 +46,19 @@ use Rattle.schedule_rule.proofs.PlacingFactsFrames.{next-short}
 use Rattle.step_table.specs.Lookups.{run_in}
 use Rattle.step_table.specs.RecordHands.{RunAt, HasFuture}
 use Rattle.step_table.proofs.LookupFacts.{run-there}
-use Rattle.schedule_core.specs.Behinds.{task_behind, unit_behind}
-use Rattle.schedule_core.specs.NextNumbers.{IsTask, HasNumber, MetLimitNext, SawBehind}
+use Rattle.schedule_core.specs.Making.{task_behind}
+use Rattle.schedule_core.specs.SeenTasks.{unit_behind}
+use Rattle.schedule_core.specs.NextNumbers.{IsNextUnit, HasNumber, MetLimitNext, SawBehind}
 use Rattle.schedule_core.specs.NextPlaces.{MayPlaceBehind, EntersAgain, PlacesAgain}
 use Rattle.schedule_core.specs.References.{MayDropEach, DropsEach}
-use Rattle.schedule_core.specs.Respawning.{unit_next, MayName, AsksAgain, AsksOnNull, HasRespawned, IsLimited, limited}
-use Rattle.schedule_core.specs.Runs.{IsSameKind, IsInStep}
-use Rattle.schedule_core.specs.declared.behinds.Behind.{Behind}
+use Rattle.schedule_core.specs.Respawning.{unit_next, AsksAgain, AsksOnNull, HasRespawned, IsLimited, limited}
+use Rattle.schedule_core.specs.Runs.{IsTask, IsSameKind, IsInStep}
+use Rattle.schedule_core.specs.declared.making.Behind.{Behind}
 use Rattle.schedule_core.specs.declared.running.Running.{Running}
 use Rattle.schedule_core.proofs.ChangedRuns.{dropped-changed, first-changed}
-use Rattle.schedule_core.proofs.JoinedBehind.{has-grown}
+use Rattle.schedule_core.proofs.Joining.{has-grown}
 use Rattle.schedule_core.proofs.LessParts.{less-append, less-same, less-long}
-use Rattle.schedule_core.proofs.NextPlaceFacts.{has-left}
+use Rattle.schedule_core.proofs.Placing.{has-before}
 
 -- the two counts of a unit in a list are one
 units-times : (u : ℕ) (l : List ℕ) → units.times u l ≡ times u l
@@ -69,7 +72,7 @@ parts-are given left whole parts w = omega (arith, parts w, units-times w given,
 -- the frame that a task enters is that of a next activation
 pub next-entered : (p : Program) (target : ℕ) (a b c : BodyOf ℕ) → IsSameKind a b → c ≡ entered_held p target b → BodyHasWay p c → IsNextFrame p a c
 next-entered p target (OfKind q) (OfKind now) c same is way =
-    subst (λ (x : BodyOf ℕ). IsNextFrame p (OfKind q) x) (sym is) (same, subst (BodyHasWay p) is way)
+    subst (λ (x : BodyOf ℕ). IsNextFrame p (OfKind q) x) (sym is) (same.0, subst (BodyHasWay p) is way)
 next-entered p target (OfMembers us at) (OfMembers vs next) c same is way =
     subst (λ (x : BodyOf ℕ). IsNextFrame p (OfMembers us at) x) (sym is) (same.0, ap (λ (n : ℕ). n + 1) same.1)
 next-entered p target (OfKind q) (OfMembers vs next) c same is way = absurd same
@@ -77,28 +80,53 @@ next-entered p target (OfMembers us at) (OfKind now) c same is way = absurd same
 
 -- and so is the frame as it stands, of a task
 pub next-stays : (p : Program) (a b : BodyOf ℕ) → IsSameKind a b → BodyHasWay p b → IsTask b → IsNextFrame p a b
-next-stays p (OfKind q) (OfKind now) same way single = (same, way)
+next-stays p (OfKind q) (OfKind now) same way single = (same.0, way)
 next-stays p (OfMembers us at) (OfMembers vs next) same way single = absurd single
 next-stays p (OfKind q) (OfMembers vs next) same way single = absurd same
 next-stays p (OfMembers us at) (OfKind now) same way single = absurd same
 
 -- a task that asks for its next activation may enter the state that it names
 pub may-enter : (p : Program) (c : Columns) (request : RespawnRequest) (b : BodyOf ℕ) → AsksAgain p c request b → MayEnter p request.target b
-may-enter p c request (OfKind q) asks = stop-allows p c q (act.Again request) asks.0
-may-enter p c request (OfMembers us n) asks = absurd asks
+may-enter p c request (OfKind q) asks = stop-allows p c q (act.Again request) asks
+may-enter p c request (OfMembers us n) asks = member-allows p us n (act.Again request) asks
 
--- and is no aggregate
-pub asks-single : (p : Program) (c : Columns) (request : RespawnRequest) (b : BodyOf ℕ) → AsksAgain p c request b → IsTask b
-asks-single p c request (OfKind q) asks = tt
-asks-single p c request (OfMembers us n) asks = absurd asks
+-- what an aggregate asks for is to be behind its next member
+pub record AsksMember (us : List ℕ) (n : ℕ) (request : RespawnRequest) : Type 0 where
+  pub unit : ℕ
+  pub there : At us n unit
+  pub behind_is : request.behind ≡ Some n
 
-pub asks-name : (p : Program) (c : Columns) (request : RespawnRequest) (b : BodyOf ℕ) → AsksAgain p c request b → MayName p request.behind b
-asks-name p c request (OfKind q) asks = asks.1
-asks-name p c request (OfMembers us n) asks = absurd asks
+abbrev behind-of : Act → Option ℕ
+behind-of (act.Again request) = request.behind
+behind-of _ = None
 
+asks-member : (us : List ℕ) (n : ℕ) (request : RespawnRequest) → member_act (slice_get us n) n ≡ act.Again request → AsksMember us n request
+asks-member us n request asks = by (slice_get us n) refl asks
+  where
+    by : (o : Option ℕ) → slice_get us n ≡ o → member_act o n ≡ act.Again request → AsksMember us n request
+    by None is asks' = cc
+    by (Some u) is asks' = record { unit = u; there = is; behind_is = sym (ap behind-of asks') }
+
+-- so its next activation is behind that member
+pub asks-next : (p : Program) (c : Columns) (request : RespawnRequest) (b : BodyOf ℕ) → AsksAgain p c request b → IsNextUnit (unit_next b request.behind) b
+asks-next p c request (OfKind q) asks = tt
+asks-next p c request (OfMembers us n) asks =
+    let m = asks-member us n request asks in (m.unit, m.there, ap (λ (o : Option ℕ). unit_next (OfMembers us n) o) m.behind_is ∙ m.there)
+
+-- and what it names is one of its members
+pub member-name : (us : List ℕ) (n : ℕ) (request : RespawnRequest) → member_act (slice_get us n) n ≡ act.Again request → IfSome request.behind (λ position. position < length us)
+member-name us n request asks =
+    let m = asks-member us n request asks in subst (λ (o : Option ℕ). IfSome o (λ position. position < length us)) (sym m.behind_is) (slice_get_within us n m.unit m.there)
+
+-- what is tried again is a task's act
 pub null-single : (p : Program) (c : Columns) (b : BodyOf ℕ) → AsksOnNull p c b → IsTask b
 null-single p c (OfKind q) asks = tt
 null-single p c (OfMembers us n) asks = absurd asks
+
+-- whose next activation may be behind none
+pub null-next : (p : Program) (c : Columns) (b : BodyOf ℕ) → AsksOnNull p c b → IsNextUnit None b
+null-next p c (OfKind q) asks = tt
+null-next p c (OfMembers us n) asks = absurd asks
 
 -- what a variable names is among what the frame names
 pub named-there : (b : BodyOf ℕ) (x : Option ℕ) (u : ℕ) → unit_next b x ≡ Some u → 1 ≤ times u (names_of b)
@@ -111,7 +139,8 @@ named-there (OfKind q) (Some x) u is = by q.futures x is
     by (Some w ∷ fs) zero named = omega (arith, ap one_if (eq-eqb w u (same_Some w u named)))
     by (None ∷ fs) (suc y) named = by fs y named
     by (Some w ∷ fs) (suc y) named = omega (arith, by fs y named)
-named-there (OfMembers us n) x u is = absurd (none-some u is)
+named-there (OfMembers us n) None u is = absurd (none-some u is)
+named-there (OfMembers us n) (Some k) u is = omega (arith, total-member (λ (x : ℕ). one_if (x == u)) us k u is, one-here u)
 
 -- references of a sound view are to records of the table
 pub near-each : (g : Setup) (v : View) (us : List ℕ) → SoundRecords g v → ((w : ℕ) → times w us ≤ times w v.futures) → Each (λ u. u < units_of g.plan) us
@@ -122,13 +151,13 @@ near-each g v us sound few k u at =
 -- what was seen is seen among more steps
 saw-more : (behind : Option Behind) (front steps : List (Addr × ℕ)) → SawBehind behind steps → SawBehind behind (front ++ steps)
 saw-more None front steps saw = tt
-saw-more (Some b) front steps saw = has-grown _ front steps (front ++ steps) refl saw
+saw-more (Some b) front steps saw = has-grown _ steps (front ++ steps) front refl saw
 
 enters-more : (u n : ℕ) (priority : Priority) (behind : Option Behind) (o : Option Entry) (front steps more : List (Addr × ℕ)) → EntersAgain u n priority behind o steps
     → EntersAgain u n priority behind o (front ++ (steps ++ more))
 enters-more u n priority behind None front steps more enters = enters
 enters-more u n priority behind (Some e) front steps more (unit, number, inl none) = (unit, number, inl none)
-enters-more u n priority behind (Some e) front steps more (unit, number, inr t) = (unit, number, inr (t.0, t.1, has-grown _ front (steps ++ more) (front ++ (steps ++ more)) refl (has-left _ steps more t.2)))
+enters-more u n priority behind (Some e) front steps more (unit, number, inr t) = (unit, number, inr (t.0, t.1, has-grown _ (steps ++ more) (front ++ (steps ++ more)) front refl (has-before _ steps more t.2)))
 
 module _ (g : Setup) (x : Running) (wanted : Option ℕ) (number : ℕ) (behind : Option Behind) (base v : View) (in_step : IsInStep g x base) (has : HasNumber g x wanted number behind base v) where
   abbrev p : Program
@@ -166,7 +195,7 @@ module _ (g : Setup) (x : Running) (wanted : Option ℕ) (number : ℕ) (behind 
   pub old-few : (w : ℕ) → times w old ≤ times w v.futures
   old-few w = omega (arith, in_step.spare.there w, ap (λ (l : List ℕ). times w l) futures-are)
 
-  module _ (next given : List ℕ) (frame : IsFrame p next) (is_next : IsNextFrame p (body_at p (slice_index in_step.run.words)) (body_of p next)) (parts : (w : ℕ) → times w given + times w (named_in p next) ≡ times w old) where
+  module _ (next given : List ℕ) (frame : IsFrame p next) (is_next : IsNextFrame p (body_at p (slice_index in_step.run.words)) (body_of p next)) (its_names : HoldsNames p (body_of p next)) (parts : (w : ℕ) → times w given + times w (named_in p next) ≡ times w old) where
     abbrev names : List ℕ
     names = named_in p next
 
@@ -188,6 +217,7 @@ module _ (g : Setup) (x : Running) (wanted : Option ℕ) (number : ℕ) (behind 
         frame = frame;
         fits = omega (arith, frame.size, next-short p next frame in_step.run.words is_next, asker-frame.fits);
         next = is_next;
+        names = its_names;
         spare = record {
           there = names-few;
           bag = subst (BagSound p) (λ k. record { futures = less (sym futures-are k) names; runs = sym runs-left k })
@@ -328,6 +358,7 @@ met-in_step g x old new s met = record {
     unasked = s.unasked;
     frame = s.frame;
     way = s.way;
+    names = s.names;
     same = s.same;
     spare = record {
       there = λ w. omega (arith, s.spare.there w, ap (λ (z : View). times w z.futures) met.view_is);

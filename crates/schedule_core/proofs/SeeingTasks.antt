@@ -21,9 +21,25 @@ use Rattle.step_table.specs.Passes.{view, IsSame}
 use Rattle.step_table.specs.RecordHands.{HasFuture}
 use Rattle.step_table.specs.declared.pass.Pass.{Pass}
 use Rattle.schedule_core.specs.References.{Grows, HasEach}
-use Rattle.schedule_core.specs.SeenTasks.{task_seen, SeesBehind, SeesEach}
+use Rattle.schedule_core.specs.SeenTasks.{task_seen, with_behind, SeesEach}
 use Rattle.schedule_core.specs.declared.making.Behind.{Behind}
 use Rattle.schedule_core.proofs.EachFacts.{grows-on, grows-self}
+
+-- the predecessor's task was seen, if there is one, and nothing else has changed
+abbrev pub SeesBehind : Option Behind → View → View → Type 0
+SeesBehind None old new = new ≡ old
+SeesBehind (Some b) old new = (task_seen b.unit new.sights ≡ Some b.task) × Grows old.sights new.sights × Grows old.facts new.facts × Grows old.seen new.seen
+    × (new ≡ record old { sights = new.sights; facts = new.facts; seen = new.seen })
+
+pub seen-behind : (o : Option Behind) (old new : View) → new ≡ with_behind o old → SeesBehind o old new
+seen-behind None old new is = is
+seen-behind (Some b) old new is = (
+  ap (λ (v : View). task_seen b.unit v.sights) is ∙ ap (λ (t : Bool). cond t (Some b.task) (task_seen b.unit old.sights)) (eq-eqb b.unit b.unit refl),
+  (SawTask b.unit b.task ∷ [], ap (λ (v : View). v.sights) is),
+  (IsTask b.task ∷ [], ap (λ (v : View). v.facts) is),
+  ((task b.unit, b.task) ∷ [], ap (λ (v : View). v.seen) is),
+  is ∙ (λ k. record old { sights = (sym is k).sights; facts = (sym is k).facts; seen = (sym is k).seen }),
+)
 
 -- the task of a predecessor is seen
 pub sees-behind : (limit u : ℕ) (b : Behind) (old new : View) → u ≡ b.unit → SeesTask limit u old b.task new → SeesBehind (Some b) old new

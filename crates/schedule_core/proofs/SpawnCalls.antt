@@ -17,7 +17,7 @@ use Rattle.schedule_rule.specs.Calls.{IsCallOf, sort_passed}
 use Rattle.schedule_rule.specs.DrawViews.{KnowsTask}
 use Rattle.schedule_rule.specs.PlacingViews.{WasSeenAs, WereSeenAs}
 use Rattle.schedule_core.specs.SeenTasks.{task_seen}
-use Rattle.schedule_core.specs.Spawning.{task_passed}
+use Rattle.schedule_core.specs.NewTasks.{task_passed}
 use Rattle.schedule_core.proofs.SpawnFrames.{some-present}
 
 -- the task that was seen last was seen

@@ -1,16 +1,14 @@
--- What comes of a spawn whose record was made.
-use Rattle.std.proofs.Common.{◌≡◌, ◌∙◌, ℕ, ◌+◌, ◌-◌, ◌≤◌, Bool, true, cond, Option, Some, None, List, ◌∷◌, ◌++◌, map, refl, sym, ap, subst, append_assoc, arith}
+-- What comes of a new task whose record was made.
+use Rattle.std.proofs.Common.{◌≡◌, ◌∙◌, ℕ, ◌+◌, ◌-◌, ◌≤◌, Bool, true, cond, Option, Some, None, List, ◌∷◌, ◌++◌, refl, sym, ap, subst, append_assoc, arith}
 use Rattle.std.specs.Prelude.{IfSome}
 use Rattle.std.proofs.lemmas.Bool.{eq-eqb}
-use Rattle.record_core.specs.Counting.{At, Has, times, dropped}
+use Rattle.record_core.specs.Counting.{Has, times, dropped}
 use Rattle.task_meaning.specs.Worths.{Accepted}
 use Rattle.ready_queues.specs.declared.entry.Entry.{Entry}
-use Rattle.frame_code.specs.Entries.{future_of, number_of}
 use Rattle.frame_code.specs.Moves.{passed_on}
 use Rattle.frame_code.specs.Setting.{with_future}
 use Rattle.frame_code.specs.Units.{named_in}
 use Rattle.frame_code.specs.Words.{BodyOf, OfKind, OfMembers, body_of}
-use Rattle.frame_code.specs.declared.act.SpawnRequest.{SpawnRequest}
 use Rattle.table_core.specs.Addresses.{Addr, sum}
 use Rattle.table_core.specs.Asking.{OfTask, IsLimit}
 use Rattle.table_core.specs.Holdings.{Made as MadeOf, Run, SawTask}
@@ -23,33 +21,33 @@ use Rattle.table_core.specs.declared.setup.Setup.{Setup}
 use Rattle.table_core.specs.declared.view.View.{View}
 use Rattle.schedule_rule.specs.DrawViews.{ask, changed, drawn_for, drew_for_run, give_number}
 use Rattle.schedule_rule.specs.LifeViews.{with_words}
-use Rattle.schedule_rule.specs.PlacingViews.{is_drawn, past_act, WasSeenAs, WereSeenAs}
+use Rattle.schedule_rule.specs.PlacingViews.{is_drawn, past_act, WasSeenAs}
 use Rattle.step_table.specs.DrawSteps.{DrewNumber}
 use Rattle.step_table.specs.PlacingSteps.{Placement, PlacedFor, runs_past}
 use Rattle.step_table.specs.declared.record_tokens.Future.{Future}
 use Rattle.step_table.specs.declared.record_tokens.Made.{Made}
 use Rattle.schedule_core.specs.Begins.{MetLimit}
-use Rattle.schedule_core.specs.Making.{Enters, Offers, task_behind}
+use Rattle.schedule_core.specs.Making.{Enters, IsReadyWith, Offers, WaitsOpen, task_behind}
 use Rattle.schedule_core.specs.Numbers.{GaveBack}
 use Rattle.schedule_core.specs.PastFrames.{past_words}
 use Rattle.schedule_core.specs.Runs.{IsInStep, IsSameKind}
 use Rattle.schedule_core.specs.SeenTasks.{unit_behind, task_seen}
-use Rattle.schedule_core.specs.Spawning.{IsMaking, MaySpawnTask, MayPlaceTask, HasSpawned, asking_of, call_made, kind_class, named_if, task_passed}
+use Rattle.schedule_core.specs.NewTasks.{IsMaking, Wants, MayPlaceTask, HasMade, asking_of, call_made, class_given}
 use Rattle.schedule_core.specs.declared.making.Behind.{Behind}
 use Rattle.schedule_core.specs.declared.running.Running.{Running}
-use Rattle.schedule_core.specs.declared.spawning.NewTask.{NewTask}
+use Rattle.schedule_core.specs.declared.new_tasks.NewTask.{NewTask}
 use Rattle.schedule_core.proofs.ChangedRuns.{dropped-changed, changed-again}
 use Rattle.schedule_core.proofs.PastFrames.{past-frame}
-use Rattle.schedule_core.proofs.Placing.{has-before, enters-more}
+use Rattle.schedule_core.proofs.Placing.{has-before, enters-more, waits-more}
 use Rattle.schedule_core.proofs.AskingActs.{passes-on}
-use Rattle.schedule_core.proofs.SpawnCalls.{seen-has, were-seen}
-use Rattle.schedule_core.proofs.SpawnFrames.{passed-named}
+use Rattle.schedule_core.proofs.GivenCalls.{call-behind, call-over}
+use Rattle.schedule_core.proofs.SpawnCalls.{seen-has}
 use Rattle.schedule_core.proofs.SpawnMoves.{in-step-moved}
 use Rattle.schedule_core.proofs.SpawnOffers.{placed_call, placed_for, drew_view}
-use Rattle.schedule_core.proofs.SpawnSights.{named-futures, named-there}
+use Rattle.schedule_core.proofs.SpawnSights.{named-futures}
 
 -- a record that stands first is dropped
-first-dropped : (u class : ℕ) (l : List MadeOf) → dropped (is_made_at u) (new_made (block u class true) ∷ l) ≡ l
+pub first-dropped : (u class : ℕ) (l : List MadeOf) → dropped (is_made_at u) (new_made (block u class true) ∷ l) ≡ l
 first-dropped u class l = ap (λ (b : Bool). cond b l (new_made (block u class true) ∷ dropped (is_made_at u) l)) (eq-eqb u u refl)
 
 -- a number that stands first is dropped
@@ -113,7 +111,7 @@ met-back g x class base made v new m gave = record {
 
 -- a frame past its act is of its own kind
 past-kind : (b : BodyOf ℕ) (to : ℕ) (unit : Option ℕ) → IsSameKind (with_future to unit (passed_on b)) b
-past-kind (OfKind q) to unit = refl
+past-kind (OfKind q) to unit = (refl, refl)
 past-kind (OfMembers units next) to unit = (refl, refl)
 
 -- one more and one less is as many
@@ -127,8 +125,8 @@ runs-past w items past runs =
     ∙ changed-again (is_run_at w) (with_words items) (λ y. refl) (λ y. past_act past (ask y)) runs
     ∙ (λ k. changed (is_run_at w) (λ (y : Run). record y { unplaced = one-back y.unplaced k; words = past }) runs)
 
-module _ (g : Setup) (x : Running) (made : Made) (new : NewTask) (behind : Option Behind) (request : SpawnRequest) (placement : Placement) (v : View) (m : MayPlaceTask g x made new behind request placement v)
-    (found n : ℕ) (base : View) (may : MaySpawnTask g x new request base) (making : IsMaking g x (kind_class g.checked request.kind) base made v)
+module _ (g : Setup) (x : Running) (made : Made) (new : NewTask) (behind : Option Behind) (placement : Placement) (v : View) (m : MayPlaceTask g x made new behind placement v)
+    (found n : ℕ) (base : View) (wants : Wants g x new base) (making : IsMaking g x (class_given g.checked new.given) base made v)
     (future : Future) (entry : Option Entry) (after : View) where
   abbrev u : ℕ
   u = made.unit
@@ -137,16 +135,16 @@ module _ (g : Setup) (x : Running) (made : Made) (new : NewTask) (behind : Optio
   w = x.started.unit
 
   abbrev class : ℕ
-  class = kind_class g.checked request.kind
+  class = class_given g.checked new.given
 
   abbrev drew : View
-  drew = drew_view g x made new behind request placement v m found n
+  drew = drew_view g x made new behind placement v m found n
 
   abbrev past : List ℕ
-  past = past_words g.checked x.frame.items request.to u
+  past = past_words g.checked x.frame.items new.to u
 
   abbrev call : Accepted
-  call = call_made new.kind new.passed behind v.sights
+  call = call_made new.given behind v.sights
 
   module _ (offers : Offers g made n behind placement drew (future, entry) after) where
     offered : after ≡ record base {
@@ -184,7 +182,7 @@ module _ (g : Setup) (x : Running) (made : Made) (new : NewTask) (behind : Optio
     made_is = dropped-changed (is_made_at u) (give_number n) (λ y. refl) (new_made (block u class true) ∷ base.made) ∙ first-dropped u class base.made
 
     runs_are : runs_past placement.asked (changed (is_run_at w) ask (changed (is_run_at w) (with_words x.frame.items) base.runs)) ≡ changed (is_run_at w) (with_words past) base.runs
-    runs_are = ap (λ (a : PlacedFor). runs_past a (changed (is_run_at w) ask (changed (is_run_at w) (with_words x.frame.items) base.runs))) (placed_for g x made new behind request placement v m found n)
+    runs_are = ap (λ (a : PlacedFor). runs_past a (changed (is_run_at w) ask (changed (is_run_at w) (with_words x.frame.items) base.runs))) (placed_for g x made new behind placement v m found n)
         ∙ runs-past w x.frame.items past base.runs
 
     drawn_is : dropped (is_drawn n) (drawn_for n u (OfTask x.task) ∷ base.drawn) ≡ base.drawn
@@ -211,7 +209,7 @@ module _ (g : Setup) (x : Running) (made : Made) (new : NewTask) (behind : Optio
       drawn = drawn_is k;
       no_task = number-dropped n base.no_task k;
       no_after = number-dropped n base.no_after k;
-      calls = (n, placed_call g x made new behind request placement v m found n k) ∷ base.calls;
+      calls = (n, placed_call g x made new behind placement v m found n k) ∷ base.calls;
       wins = place (superblock_of g.plan u) class ∷ base.wins;
       may_draw = 0;
       looks = (sym offered k).looks;
@@ -225,47 +223,33 @@ module _ (g : Setup) (x : Running) (made : Made) (new : NewTask) (behind : Optio
     -- what was seen of what the frame names is seen still
     still : (unit : ℕ) → Has unit (named_in g.checked x.frame.items) → (t : ℕ) → Has (SawTask unit t) v.sights → Has (SawTask unit t) after.sights
     still unit has t seen = offers.kept (SawTask unit t) seen
-        (omega (arith, named-futures g x base may.may.in_step unit has, ap (λ (y : View). times unit y.futures) by-unit))
+        (omega (arith, named-futures g x base wants.in_step unit has, ap (λ (y : View). times unit y.futures) by-unit))
 
-    futures_seen : WereSeenAs after (map future_of new.passed) (map (task_passed v.sights) new.passed)
-    futures_seen = let were = were-seen new.passed v m.seen in record {
-      length_is = were.length_is;
-      each = λ k unit task at_unit at_task. by k unit task at_unit (were.each k unit task at_unit at_task);
-    }
-      where
-        by : (k : ℕ) (unit task : Option ℕ) → At (map future_of new.passed) k unit → WasSeenAs v unit task → WasSeenAs after unit task
-        by k (Some y) (Some t) at seen = still y (passed-named g.checked request (body_of g.checked x.frame.items) new.passed may.may.passes may.asked.passes k y at) t seen
-        by k (Some y) None at seen = absurd seen
-        by k None (Some t) at seen = absurd seen
-        by k None None at seen = tt
-
-    behind_seen : WasSeenAs after (named_if g.checked x.frame.items request.behind) (task_behind behind)
+    behind_seen : WasSeenAs after new.behind (task_behind behind)
     behind_seen = subst (λ (o : Option ℕ). WasSeenAs after o (task_behind behind)) m.behind_is (by behind m.behind_is m.behind_seen)
       where
-        by : (o : Option Behind) → unit_behind o ≡ named_if g.checked x.frame.items request.behind → IfSome o (λ b. task_seen b.unit v.sights ≡ Some b.task) → WasSeenAs after (unit_behind o) (task_behind o)
+        by : (o : Option Behind) → unit_behind o ≡ new.behind → IfSome o (λ b. task_seen b.unit v.sights ≡ Some b.task) → WasSeenAs after (unit_behind o) (task_behind o)
         by None is seen = tt
-        by (Some b) is seen = still b.unit (named-there g.checked x.frame.items request.behind b.unit (sym is)) b.task (seen-has b.unit b.task v.sights seen)
+        by (Some b) is seen = still b.unit (subst (λ (o : Option ℕ). IfSome o (λ y. Has y (named_in g.checked x.frame.items))) (sym is) wants.behind) b.task (seen-has b.unit b.task v.sights seen)
 
     abbrev drew_steps : List (Addr × ℕ)
     drew_steps = (sum 0, found) ∷ making.seen.0
 
-    pub has-spawned : (1 ≤ n) × (n ≤ g.plan.limit) → HasSpawned g x request base future entry after
-    has-spawned within = record {
+    pub has-made : (1 ≤ n) × (n ≤ g.plan.limit) → IsReadyWith new.priority behind entry → HasMade g x new base future entry after
+    has-made within ready = record {
       number = n;
       within = within;
-      given = new.passed;
-      passes = may.asked.passes;
-      call = record { kind = new.kind; numbers = map number_of new.passed; futures = map (task_passed v.sights) new.passed };
-      kind_is = may.asked.kind_is;
-      numbers_are = refl;
-      futures_are = futures_seen;
-      waits = task_behind behind;
-      waits_for = behind_seen;
       behind = behind;
       behind_is = m.behind_is;
+      behind_seen = behind_seen;
+      call = call;
+      call_is = call-over v after new.given behind m.seen (λ y has. still y (wants.named has.0 y has.1));
+      after_is = call-behind g.checked new.given new.behind new.first.items behind v.sights wants.begins m.behind_is m.behind_seen;
       steps = offers.steps ++ drew_steps;
       since = offers.since ∙ ap (λ (l : List (Addr × ℕ)). offers.steps ++ (sum 0, found) ∷ l) making.seen.1 ∙ sym (append_assoc offers.steps drew_steps base.seen);
       enters = subst (λ (y : ℕ). Enters y n behind entry (offers.steps ++ drew_steps)) (sym offers.future_is) (enters-more u n behind entry offers.steps drew_steps offers.enters);
+      ready_with = ready;
+      stays_open = subst (λ (y : ℕ). WaitsOpen y behind entry (offers.steps ++ drew_steps)) (sym offers.future_is) (waits-more u behind entry offers.steps drew_steps offers.waits);
       sees = subst (λ (y : ℕ). Has (SawTask y n) after.sights) (sym offers.future_is) offers.sees;
       facts = (
         offers.facts.0 ++ (IsAccepted n placement.call ∷ making.facts.0),
@@ -273,7 +257,7 @@ module _ (g : Setup) (x : Running) (made : Made) (new : NewTask) (behind : Optio
       );
       view_is = by-unit ∙ (λ k. record base {
         futures = sym offers.future_is k ∷ base.futures;
-        runs = changed (is_run_at w) (with_words (past_words g.checked x.frame.items request.to (sym offers.future_is k))) base.runs;
+        runs = changed (is_run_at w) (with_words (past_words g.checked x.frame.items new.to (sym offers.future_is k))) base.runs;
         calls = (n, call) ∷ base.calls;
         wins = place (superblock_of g.plan (sym offers.future_is k)) class ∷ base.wins;
         may_draw = 0;
@@ -286,19 +270,19 @@ module _ (g : Setup) (x : Running) (made : Made) (new : NewTask) (behind : Optio
       });
     }
 
-    pub spawned-in-step : IsInStep g x after
-    spawned-in-step = in-step-moved g x past base after may.may.in_step (ap (λ (y : View). y.runs) by-unit) (λ y. omega (arith, ap (λ (z : View). times y z.futures) by-unit))
-        (subst (λ (b : BodyOf ℕ). IsSameKind b (body_of g.checked x.frame.items)) (sym past_body) (past-kind (body_of g.checked x.frame.items) request.to (Some u)))
+    pub made-in-step : IsInStep g x after
+    made-in-step = in-step-moved g x past base after wants.in_step (ap (λ (y : View). y.runs) by-unit) (λ y. omega (arith, ap (λ (z : View). times y z.futures) by-unit))
+        (subst (λ (b : BodyOf ℕ). IsSameKind b (body_of g.checked x.frame.items)) (sym past_body) (past-kind (body_of g.checked x.frame.items) new.to (Some u)))
       where
-        past_body : body_of g.checked past ≡ with_future request.to (Some u) (passed_on (body_of g.checked x.frame.items))
-        past_body = (past-frame g.checked x.frame.items request.to u may.asked.formed may.may.in_step.frame (passes-on g.checked g.columns request (body_of g.checked x.frame.items) may.may.asks) may.may.variable).1
+        past_body : body_of g.checked past ≡ with_future new.to (Some u) (passed_on (body_of g.checked x.frame.items))
+        past_body = (past-frame g.checked x.frame.items new.to u wants.formed wants.in_step.frame (passes-on g.checked new.to (body_of g.checked x.frame.items) wants.stands) wants.variable).1
 
--- behind the offer the task is spawned, and its spawner goes on
-pub spawns-new : (g : Setup) (x : Running) (made it : Made) (new : NewTask) (behind : Option Behind) (request : SpawnRequest) (placement : Placement) (n : ℕ) (v w after : View) (told : Future × Option Entry)
-    → MayPlaceTask g x made new behind request placement v → it ≡ made → DrewNumber g.plan.limit n v w (drew_for_run made.unit x.started.unit x.task placement.call n v) → Offers g it n behind placement w told after
-    → (base : View) → MaySpawnTask g x new request base → IsMaking g x (kind_class g.checked request.kind) base made v → HasSpawned g x request base told.0 told.1 after × IsInStep g x after
-spawns-new g x made it new behind request placement n v w after told m is d offers base may making =
-    (has-spawned g x made new behind request placement v m d.found n base may making told.0 told.1 after there d.is_new.within, spawned-in-step g x made new behind request placement v m d.found n base may making told.0 told.1 after there)
+-- behind the offer the task is made, and its asker goes on
+pub makes-new : (g : Setup) (x : Running) (made it : Made) (new : NewTask) (behind : Option Behind) (placement : Placement) (n : ℕ) (v w after : View) (told : Future × Option Entry)
+    → MayPlaceTask g x made new behind placement v → it ≡ made → DrewNumber g.plan.limit n v w (drew_for_run made.unit x.started.unit x.task placement.call n v) → Offers g it n behind placement w told after → IsReadyWith new.priority behind told.1
+    → (base : View) → Wants g x new base → IsMaking g x (class_given g.checked new.given) base made v → HasMade g x new base told.0 told.1 after × IsInStep g x after
+makes-new g x made it new behind placement n v w after told m is d offers ready base wants making =
+    (has-made g x made new behind placement v m d.found n base wants making told.0 told.1 after there d.is_new.within ready, made-in-step g x made new behind placement v m d.found n base wants making told.0 told.1 after there)
   where
-    there : Offers g made n behind placement (drew_view g x made new behind request placement v m d.found n) told after
+    there : Offers g made n behind placement (drew_view g x made new behind placement v m d.found n) told after
     there = subst (λ (y : View). Offers g made n behind placement y told after) d.view_is (subst (λ (y : Made). Offers g y n behind placement w told after) is offers)

@@ -2,15 +2,12 @@
 use Rattle.std.proofs.Common.{◌≡◌, ◌∙◌, ℕ, ◌<◌, ◌≤◌, Bool, true, false, cond, List, [], ◌∷◌, refl, sym, ap, subst, arith}
 use Rattle.std.specs.Prelude.{slice_index}
 use Rattle.record_core.specs.Counting.{times, dropped}
-use Rattle.task_syntax.specs.declared.columns.Columns.{Columns}
 use Rattle.task_syntax.specs.declared.program.Program.{Program}
 use Rattle.frame_code.specs.Control.{is_aggregate, control_at}
 use Rattle.frame_code.specs.Frames.{IsFrame}
 use Rattle.frame_code.specs.Names.{named}
 use Rattle.frame_code.specs.Ways.{BodyHasWay}
 use Rattle.frame_code.specs.Words.{BodyOf, OfKind, OfMembers, frame_at, members_at, body_at, body_of}
-use Rattle.frame_code.specs.declared.act.Act.{Act}
-use Rattle.frame_code.specs.declared.act.SpawnRequest.{SpawnRequest}
 use Rattle.table_core.specs.Addresses.{units_of}
 use Rattle.table_core.specs.Holdings.{Run}
 use Rattle.table_core.specs.Lists.{Each}
@@ -20,6 +17,7 @@ use Rattle.table_core.specs.Views.{place, block}
 use Rattle.table_core.specs.WaitViews.{is_run_at}
 use Rattle.table_core.specs.declared.setup.Setup.{Setup}
 use Rattle.table_core.specs.declared.view.View.{View}
+use Rattle.schedule_rule.specs.CoveringLaws.{StandsAsking}
 use Rattle.schedule_rule.specs.DrawViews.{changed}
 use Rattle.schedule_rule.specs.Frames.{BagSound}
 use Rattle.schedule_rule.specs.LifeViews.{with_words, IsMovedFrame}
@@ -36,15 +34,15 @@ use Rattle.step_table.specs.declared.tokens.Block.{Block}
 use Rattle.step_table.proofs.LookupFacts.{run-there}
 use Rattle.schedule_core.specs.Begins.{HasBegun, MayMakeIn, MetLimit}
 use Rattle.schedule_core.specs.Runs.{IsInStep, IsSameKind}
-use Rattle.schedule_core.specs.Spawning.{AsksFor, IsMaking, MaySpawn, MaySpawnIn, asking_of}
+use Rattle.schedule_core.specs.NewTasks.{IsMaking, MayMakeInBlock, Wants, asking_of}
 use Rattle.schedule_core.specs.declared.running.Running.{Running}
-use Rattle.schedule_core.specs.declared.spawning.NewTask.{NewTask}
+use Rattle.schedule_core.specs.declared.new_tasks.NewTask.{NewTask}
 use Rattle.schedule_core.proofs.BagFacts.{bag-moved}
 use Rattle.schedule_core.proofs.ChangedRuns.{dropped-changed, first-changed}
 
 -- a frame is of its own kind
 pub kind-self : (b : BodyOf ℕ) → IsSameKind b b
-kind-self (OfKind q) = refl
+kind-self (OfKind q) = (refl, refl)
 kind-self (OfMembers units next) = (refl, refl)
 
 -- where the frame of the run is of the same kind and no reference is gone, the task is in step still
@@ -62,6 +60,7 @@ in-step-moved g x words old new s runs_is more same = record {
   unasked = s.unasked;
   frame = s.frame;
   way = s.way;
+  names = s.names;
   same = same;
   spare = record {
     there = there;
@@ -83,46 +82,46 @@ pub met-in-step : (g : Setup) (x : Running) (class : ℕ) (old new : View) → I
 met-in-step g x class old new s met =
     in-step-moved g x x.frame.items old new s (ap (λ (v : View). v.runs) met.view_is) (λ w. omega (arith, ap (λ (v : View). times w v.futures) met.view_is)) (kind-self (body_of g.checked x.frame.items))
 
--- a frame that asks has moved on from an earlier one of its task
-moved-frame : (p : Program) (c : Columns) (asked : Act) (words next : List ℕ) → AsksFor p c asked (body_of p next) → IsSameKind (body_at p (slice_index words)) (body_of p next) → BodyHasWay p (body_of p next) → IsFrame p next
+-- a frame that stands where it asks has moved on from an earlier one of its task
+moved-frame : (p : Program) (to : ℕ) (words next : List ℕ) → StandsAsking p to (body_of p next) → IsSameKind (body_at p (slice_index words)) (body_of p next) → BodyHasWay p (body_of p next) → IsFrame p next
     → IsMovedFrame p words next
-moved-frame p c asked words next asks same way frame = by (is_aggregate (slice_index words 0)) refl (is_aggregate (slice_index next 0)) refl asks same way
+moved-frame p to words next asks same way frame = by (is_aggregate (slice_index words 0)) refl (is_aggregate (slice_index next 0)) refl asks same way
   where
     body : List ℕ → Bool → BodyOf ℕ
     body l b = cond b (OfMembers (members_at (slice_index l)) (control_at (slice_index l 0))) (OfKind (frame_at p (slice_index l)))
 
-    by : (b : Bool) → is_aggregate (slice_index words 0) ≡ b → (d : Bool) → is_aggregate (slice_index next 0) ≡ d → AsksFor p c asked (body next d) → IsSameKind (body words b) (body next d) → BodyHasWay p (body next d)
+    by : (b : Bool) → is_aggregate (slice_index words 0) ≡ b → (d : Bool) → is_aggregate (slice_index next 0) ≡ d → StandsAsking p to (body next d) → IsSameKind (body words b) (body next d) → BodyHasWay p (body next d)
         → IsMovedFrame p words next
     by b e true e' asks' same' way' = absurd asks'
     by true e false e' asks' same' way' = absurd same'
-    by false e false e' asks' same' way' = record { single = e; next_single = e'; kind = same'; way = way'; formed = formed-same p next frame (slice_index next) (λ j low. refl) }
+    by false e false e' asks' same' way' = record { single = e; next_single = e'; kind = same'.0; way = way'; formed = formed-same p next frame (slice_index next) (λ j low. refl) }
 
 -- leave to draw may be asked for a task that asks, as far as it has come
-pub may-see : (g : Setup) (x : Running) (request : SpawnRequest) (v : View) → MaySpawn g x request v → MaySeeDrawn g (asking_of x) v
-may-see g x request v may = record {
+pub may-see : (g : Setup) (x : Running) (new : NewTask) (v : View) → Wants g x new v → MaySeeDrawn g (asking_of x) v
+may-see g x new v wants = record {
   asks = let t = run-there x.started.unit v.runs s.run s.at.there in (s.run, t.0, s.task_is, s.placed);
   moves = record {
     run = s.run;
     at = s.at;
     idle = s.placed;
-    frame = moved-frame g.checked g.columns _ s.run.words x.frame.items may.asks s.same s.way s.frame;
+    frame = moved-frame g.checked new.to s.run.words x.frame.items wants.stands s.same s.way s.frame;
     covers = λ was. bag-moved g.checked v.futures (named g.checked (slice_index x.frame.items)) x.frame.items v.runs x.started.unit s.run s.at.there s.way (λ w. omega arith) s.spare.there s.spare.bag;
   };
 }
   where
     s : IsInStep g x v
-    s = may.in_step
+    s = wants.in_step
 
 -- so a record may be made
-pub may-make : (g : Setup) (x : Running) (new : NewTask) (request : SpawnRequest) (b : Block) (asking : Asking) (v : View) → asking ≡ asking_of x → MaySpawnIn g x new request b v → MayMakeIn g b asking v
-may-make g x new request b asking v is may = subst (λ (a : Asking). MayMakeIn g b a v) (sym is) (record {
+pub may-make : (g : Setup) (x : Running) (new : NewTask) (b : Block) (asking : Asking) (v : View) → asking ≡ asking_of x → MayMakeInBlock g x new b v → MayMakeIn g b asking v
+may-make g x new b asking v is may = subst (λ (a : Asking). MayMakeIn g b a v) (sym is) (record {
   base = may.base;
   gives = subst (λ (c : ℕ). Gives g.plan c may.base (block_of b) v) (sym may.gives.of_class) may.gives;
   later = may.later;
-  may = may-see g x request may.base may.may.may;
+  may = may-see g x new may.base may.wants;
 })
 
--- what comes of that, by the class of the kind
+-- what comes of that, by the class of what is given
 pub begun-making : (g : Setup) (x : Running) (class c : ℕ) (asking : Asking) (base : View) (made : Made) (v : View) → asking ≡ asking_of x → c ≡ class → HasBegun g c asking base made v → IsMaking g x class base made v
 begun-making g x class c asking base made v is class_is has' = record {
   is_block = has.is_block;

@@ -1,19 +1,16 @@
 -- Tasks are seen for a new task, in whose record nothing changes.
-use Rattle.std.proofs.Common.{◌≡◌, ◌∙◌, ℕ, zero, suc, ◌+◌, ◌<◌, ◌≤◌, ◌==◌, Bool, true, false, Option, Some, None, List, [], ◌∷◌, map, refl, sym, ap, subst, arith}
+use Rattle.std.proofs.Common.{◌≡◌, ◌∙◌, ℕ, zero, suc, ◌+◌, ◌<◌, ◌≤◌, ◌==◌, Bool, true, false, Option, Some, None, List, [], ◌∷◌, refl, sym, ap, subst, arith}
 use Rattle.std.specs.Prelude.{IfSome, length, slice_index}
 use Rattle.std.proofs.lemmas.Bool.{eqb-true}
 use Rattle.std.proofs.lemmas.Option.{none-some}
 use Rattle.record_core.specs.Counting.{At, Has, one_if, times}
 use Rattle.record_core.proofs.TotalFacts.{none_there}
 use Rattle.task_syntax.specs.declared.program.Program.{Program}
-use Rattle.frame_code.specs.Entries.{future_of, MaySpawn as MayPass, Passes}
 use Rattle.frame_code.specs.Frames.{IsFrame}
-use Rattle.frame_code.specs.Names.{present, names_of, named}
+use Rattle.frame_code.specs.Names.{names_of, named}
 use Rattle.frame_code.specs.Setting.{unit_of}
 use Rattle.frame_code.specs.Units.{named_in}
 use Rattle.frame_code.specs.Words.{BodyOf, OfKind, OfMembers, body_of}
-use Rattle.frame_code.specs.declared.act.SpawnRequest.{SpawnRequest}
-use Rattle.frame_code.specs.declared.entries.Passed.{Passed}
 use Rattle.table_core.specs.Addresses.{units_of}
 use Rattle.table_core.specs.Lists.{Each}
 use Rattle.table_core.specs.declared.setup.Setup.{Setup}
@@ -21,19 +18,19 @@ use Rattle.table_core.specs.declared.view.View.{View}
 use Rattle.table_core.proofs.BagFacts.{one-here}
 use Rattle.table_core.proofs.FrameReads.{names-few}
 use Rattle.table_core.proofs.ListFacts.{same_some}
-use Rattle.table_core.proofs.ReferenceBound.{units-few}
 use Rattle.step_table.specs.RecordHands.{HasFuture}
 use Rattle.step_table.specs.declared.record_tokens.Made.{Made}
 use Rattle.schedule_core.specs.References.{HasEach}
 use Rattle.schedule_core.specs.Runs.{IsInStep}
-use Rattle.schedule_core.specs.SeenTasks.{SeesEach, SeesBehind, task_seen, unit_behind}
-use Rattle.schedule_core.specs.Spawning.{IsMaking, MaySpawnMade, MayPlaceTask, placement_of, kind_class, named_if}
+use Rattle.schedule_core.specs.SeenTasks.{SeesEach, task_seen, unit_behind}
+use Rattle.schedule_core.specs.NewTasks.{IsMaking, MayMakeTask, MayPlaceTask, placement_of, class_given, units_given}
+use Rattle.schedule_core.specs.Spawning.{named_if}
 use Rattle.schedule_core.specs.declared.making.Behind.{Behind}
 use Rattle.schedule_core.specs.declared.running.Running.{Running}
-use Rattle.schedule_core.specs.declared.spawning.NewTask.{NewTask}
+use Rattle.schedule_core.specs.declared.new_tasks.NewTask.{NewTask}
 use Rattle.schedule_core.proofs.EachFacts.{grows-on}
-use Rattle.schedule_core.proofs.SeeingTasks.{seen-still}
-use Rattle.schedule_core.proofs.SpawnFrames.{present-some, some-present, future-some, passed-named}
+use Rattle.schedule_core.proofs.SeeingTasks.{SeesBehind, seen-still}
+use Rattle.schedule_core.proofs.SpawnFrames.{some-present, future-some}
 
 -- a member stands once at least
 pub has-times : (w : ℕ) (l : List ℕ) → Has w l → 1 ≤ times w l
@@ -70,11 +67,6 @@ module _ (g : Setup) (x : Running) (base : View) (s : IsInStep g x base) where
   pub named-has : (v : View) → v.futures ≡ base.futures → Each (λ u. u < units_of g.plan) base.futures → (u : ℕ) → Has u (named_in g.checked x.frame.items) → HasFuture g.plan u v
   named-has v is near u has = record { near = named-near near u has; there = subst (λ (l : List ℕ). 1 ≤ times u l) (sym is) (named-futures u has) }
 
--- each unit that is passed is named
-pub each-named : (p : Program) (request : SpawnRequest) (words : List ℕ) (given : List Passed) → MayPass p request words → Passes p request words given → (k u : ℕ) → At (present (map future_of given)) k u
-    → Has u (named_in p words)
-each-named p request words given may passes k u at = let t = present-some (map future_of given) u (k, at) in passed-named p request (body_of p words) given may passes t.0 u t.1
-
 module _ (g : Setup) (x : Running) (class : ℕ) (base : View) (made : Made) where
   -- tasks are seen while the record is made
   pub making-each : (units : List ℕ) (v w : View) → IsMaking g x class base made v → SeesEach units v w → IsMaking g x class base made w
@@ -110,46 +102,36 @@ behind-seen None v w is = tt
 behind-seen (Some b) v w sees = sees.0
 
 -- the task may be placed
-pub may-place_task : (g : Setup) (x : Running) (made : Made) (new : NewTask) (request : SpawnRequest) (behind : Option Behind) (v w z : View) (given : List Passed) → given ≡ new.passed
-    → MaySpawnMade g x made new request v → SeesEach (present (map future_of given)) v w → SeesBehind behind w z → unit_behind behind ≡ named_if g.checked x.frame.items request.behind
-    → MayPlaceTask g x made new behind request (placement_of g x made new behind request z) z
-may-place_task g x made new request behind v w z given given_is may sees' behind_sees behind_is = record {
-  spawn = record {
+pub may-place_task : (g : Setup) (x : Running) (made : Made) (new : NewTask) (behind : Option Behind) (v w z : View)
+    → MayMakeTask g x made new v → SeesEach (units_given new.given) v w → SeesBehind behind w z → unit_behind behind ≡ new.behind
+    → MayPlaceTask g x made new behind (placement_of g x made new behind z) z
+may-place_task g x made new behind v w z may sees behind_sees behind_is = record {
+  make = record {
     base = may.base;
-    may = may.may;
-    making = making-behind g x (kind_class g.checked request.kind) may.base made behind w z (making-each g x (kind_class g.checked request.kind) may.base made (present (map future_of new.passed)) v w may.making sees) behind_sees;
+    wants = may.wants;
+    making = making-behind g x (class_given g.checked new.given) may.base made behind w z (making-each g x (class_given g.checked new.given) may.base made (units_given new.given) v w may.making sees) behind_sees;
   };
-  seen = still-each (present (map future_of new.passed)) behind w z sees.each behind_sees;
+  seen = still-each (units_given new.given) behind w z sees.each behind_sees;
   behind_is = behind_is;
   behind_seen = behind-seen behind w z behind_sees;
   placement_is = refl;
 }
-  where
-    sees : SeesEach (present (map future_of new.passed)) v w
-    sees = subst (λ (l : List Passed). SeesEach (present (map future_of l)) v w) given_is sees'
 
-module _ (g : Setup) (x : Running) (made : Made) (new : NewTask) (request : SpawnRequest) (v : View) (may : MaySpawnMade g x made new request v) where
+module _ (g : Setup) (x : Running) (made : Made) (new : NewTask) (v : View) (may : MayMakeTask g x made new v) where
   futures_are : v.futures ≡ may.base.futures
   futures_are = ap (λ (y : View). y.futures) may.making.view_is
 
-  -- what is passed has references
-  pub passed-has : HasEach g.plan (present (map future_of new.passed)) v
-  passed-has k u at = named-has g x may.base may.may.may.in_step v futures_are may.making.near u
-      (each-named g.checked request x.frame.items new.passed may.may.may.passes may.may.asked.passes k u at)
+  -- what is given has references
+  pub given-has : HasEach g.plan (units_given new.given) v
+  given-has k u at = named-has g x may.base may.wants.in_step v futures_are may.making.near u (may.wants.named k u at)
 
-  -- the predecessor's unit is small
-  pub behind-small : IfSome (named_if g.checked x.frame.items request.behind) (λ u. u < 4294967296)
-  behind-small = by (named_if g.checked x.frame.items request.behind) refl
+  -- and the predecessor has one, also later
+  pub behind-has : (w : View) → w.futures ≡ v.futures → IfSome new.behind (λ u. HasFuture g.plan u w)
+  behind-has w is = by new.behind may.wants.behind
     where
-      by : (o : Option ℕ) → named_if g.checked x.frame.items request.behind ≡ o → IfSome o (λ u. u < 4294967296)
-      by None e = tt
-      by (Some u) e = omega (arith, units-few g.plan, named-near g x may.base may.may.may.in_step may.making.near u (named-there g.checked x.frame.items request.behind u e))
-
-  -- and the pass has a reference to it, also later
-  pub behind-has : (w : View) (o : Option ℕ) → w.futures ≡ v.futures → o ≡ named_if g.checked x.frame.items request.behind → IfSome o (λ u. HasFuture g.plan u w)
-  behind-has w None is e = tt
-  behind-has w (Some u) is e =
-      named-has g x may.base may.may.may.in_step w (is ∙ futures_are) may.making.near u (named-there g.checked x.frame.items request.behind u (sym e))
+      by : (o : Option ℕ) → IfSome o (λ u. Has u (named_in g.checked x.frame.items)) → IfSome o (λ u. HasFuture g.plan u w)
+      by None there = tt
+      by (Some u) there = named-has g x may.base may.wants.in_step w (is ∙ futures_are) may.making.near u there
 
 -- the references of a first frame can be counted
 pub names-fit : (p q : Program) (words : List ℕ) (old new : ℕ) → q ≡ p → IsFrame p words → new ≡ old → old + 64 ≤ 4294967296 → new + length (named q (slice_index words)) ≤ 4294967296

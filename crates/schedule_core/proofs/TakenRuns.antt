@@ -6,6 +6,7 @@ use Rattle.std.proofs.lemmas.List.{length-append}
 use Rattle.record_core.specs.Counting.{Has, times, one_if, dropped}
 use Rattle.record_core.proofs.TotalFacts.{none_there, total-append}
 use Rattle.task_syntax.specs.declared.program.Program.{Program}
+use Rattle.task_syntax.specs.declared.value.Priority.{Priority}
 use Rattle.frame_code.specs.Frames.{IsFrame}
 use Rattle.frame_code.specs.Names.{named, names_of}
 use Rattle.frame_code.specs.Units.{named_in}
@@ -26,7 +27,7 @@ use Rattle.table_core.specs.declared.view.View.{View}
 use Rattle.table_core.proofs.BagFacts.{one-here}
 use Rattle.schedule_rule.specs.Calls.{task_in, after_in}
 use Rattle.schedule_rule.specs.Rows.{drawn_at}
-use Rattle.schedule_rule.specs.Frames.{BagSound, front}
+use Rattle.schedule_rule.specs.Frames.{HoldsNames, BagSound, front}
 use Rattle.schedule_rule.specs.PlacingViews.{less}
 use Rattle.schedule_rule.specs.LifeViews.{knowing, MayStart}
 use Rattle.schedule_rule.specs.TakingViews.{new_run, took, IsTakenFrame}
@@ -58,7 +59,7 @@ use Rattle.schedule_core.proofs.LessFacts.{less-front}
 
 -- a frame is of its own kind
 pub same-self : (b : BodyOf ℕ) → IsSameKind b b
-same-self (OfKind q) = refl
+same-self (OfKind q) = (refl, refl)
 same-self (OfMembers units next) = (refl, refl)
 
 module _ (g : Setup) (started : Started) (before v : View) (t : TookRecord g started before v) where
@@ -141,6 +142,7 @@ module _ (g : Setup) (started : Started) (before v : View) (t : TookRecord g sta
     unasked = refl;
     frame = subst (IsFrame p) (sym is) t.frame_is.formed;
     way = subst (BodyHasWay p) (sym body) t.frame_is.way;
+    names = subst (λ (b : BodyOf ℕ). HoldsNames p b) (sym body) t.frame_is.names;
     same = subst (IsSameKind (body_at p (slice_index t.words))) (sym body) (same-self (body_at p (slice_index t.words)));
     spare = subst (λ (s : Started). IsSpare p s.unit (named_in p x.frame.items) new) (sym started_is)
         (record {
@@ -190,9 +192,10 @@ pub front-names_few : (g : Setup) (started : Started) (before v : View) (items :
 front-names_few g started before v items t is = omega (arith, ap length (named-front g started before v t items is), t.frame_is.few)
 
 -- the value that was made of what was read is the run that was taken
-pub takes-run : (g : Setup) (started : Started) (before v new : View) (t : TookRecord g started before v) (x : Running) → new ≡ record v { seen = new.seen } → Grows v.seen new.seen → x.started ≡ started
-    → x.task ≡ task_in (Some t.call) started.number → x.after ≡ after_in (Some t.call) → x.refused ≡ None → x.frame.items ≡ front g.checked (slice_index t.words) → TakesRun g started.unit started.number before x new
-takes-run g started before v new t x sees seen started_is task_is after_is refused_is is = record {
+pub takes-run : (g : Setup) (started : Started) (before v new : View) (t : TookRecord g started before v) (priority : Priority) (x : Running) → new ≡ record v { seen = new.seen } → Grows v.seen new.seen → x.started ≡ started
+    → x.task ≡ task_in (Some t.call) started.number → x.after ≡ after_in (Some t.call) → x.priority ≡ priority → x.refused ≡ None → x.frame.items ≡ front g.checked (slice_index t.words)
+    → TakesRun g started.unit started.number priority before x new
+takes-run g started before v new t priority x sees seen started_is task_is after_is priority_is refused_is is = record {
   class = t.class;
   words = t.words;
   call = t.call;
@@ -202,6 +205,7 @@ takes-run g started before v new t x sees seen started_is task_is after_is refus
   number_is = ap (λ (s : Started). s.number) started_is;
   task_is = task_is;
   after_is = after_is;
+  priority_is = priority_is;
   refused_is = refused_is;
   is_front = is;
   untaken = took-untaken g started before v t;
@@ -230,9 +234,9 @@ took-record g u ready old new started told sound = record {
 }
 
 -- the run of an entry
-pub takes-entry : (g : Setup) (entry : Entry) (started : Started) (before new : View) (x : Running) → started.unit ≡ entry.unit → started.number ≡ entry.number → TakesRun g started.unit started.number before x new
-    → TakesRun g entry.unit entry.number before x new
-takes-entry g entry started before new x unit_is number_is takes = subst (λ (n : ℕ). TakesRun g entry.unit n before x new) number_is (subst (λ (u : ℕ). TakesRun g u started.number before x new) unit_is takes)
+pub takes-entry : (g : Setup) (entry : Entry) (started : Started) (before new : View) (x : Running) → started.unit ≡ entry.unit → started.number ≡ entry.number
+    → TakesRun g started.unit started.number entry.priority before x new → TakesRun g entry.unit entry.number entry.priority before x new
+takes-entry g entry started before new x unit_is number_is takes = subst (λ (n : ℕ). TakesRun g entry.unit n entry.priority before x new) number_is (subst (λ (u : ℕ). TakesRun g u started.number entry.priority before x new) unit_is takes)
 
 -- another word was found
 pub passes-word : (g : Setup) (entry : Entry) (ready found : StateWord) (old new : Pass) → FitsEntry g.plan entry → ready ≡ word_of entry → FindsOtherState entry.unit ready old found new → Passes g entry (view old) found (view new)
@@ -286,9 +290,9 @@ passes-outside g entry found v far fits zeros = record {
 }
 
 -- what a take tells since a sweep began
-pub run-since : (g : Setup) (unit number : ℕ) (old now new : View) (x : Running) → now ≡ record old { sights = now.sights; seen = now.seen } → Grows old.sights now.sights → Grows old.seen now.seen
-    → TakesRun g unit number now x new → TakesRun g unit number old x new
-run-since g unit number old now new x so sights grows t = record {
+pub run-since : (g : Setup) (unit number : ℕ) (priority : Priority) (old now new : View) (x : Running) → now ≡ record old { sights = now.sights; seen = now.seen } → Grows old.sights now.sights → Grows old.seen now.seen
+    → TakesRun g unit number priority now x new → TakesRun g unit number priority old x new
+run-since g unit number priority old now new x so sights grows t = record {
   class = t.class;
   words = t.words;
   call = t.call;
@@ -298,6 +302,7 @@ run-since g unit number old now new x so sights grows t = record {
   number_is = t.number_is;
   task_is = t.task_is;
   after_is = t.after_is;
+  priority_is = t.priority_is;
   refused_is = t.refused_is;
   is_front = t.is_front;
   untaken = subst (λ (v : View). HasNoNumber number v) so t.untaken;
@@ -364,7 +369,7 @@ pub spilled-since : (g : Setup) (found : ℕ) (old now new : View) (told : Taken
 spilled-since g found old now new (taken.Task x) so other t =
     let since : now ≡ record old { sights = now.sights; seen = now.seen } = so ∙ (λ k. record old { sights = (sym so k).sights; seen = (sym so k).seen }) in let grows : Grows old.seen now.seen = ((sum 4, found) ∷ [], ap (λ (v : View). v.seen) so) in (
       spill-since found old now new so other t.2.seen,
-      (t.0, ready-since t.0 old now new grows t.1, run-since g (t.0).unit (t.0).number old now new x since ([], ap (λ (v : View). v.sights) so) grows t.2),
+      (t.0, ready-since t.0 old now new grows t.1, run-since g (t.0).unit (t.0).number (t.0).priority old now new x since ([], ap (λ (v : View). v.sights) so) grows t.2),
     )
 spilled-since g found old now new (taken.Passed entry word) so other t =
     let since : now ≡ record old { sights = now.sights; seen = now.seen } = so ∙ (λ k. record old { sights = (sym so k).sights; seen = (sym so k).seen }) in let grows : Grows old.seen now.seen = ((sum 4, found) ∷ [], ap (λ (v : View). v.seen) so) in (

@@ -1,5 +1,5 @@
 -- What a completion needs and tells, and what a chain's next member gives.
-use Rattle.std.specs.Prelude.{◌≡◌, ℕ, true, false, Some, List, ◌∷◌, ◌++◌}
+use Rattle.std.specs.Prelude.{◌≡◌, ℕ, true, false, Some, None, List, ◌∷◌, ◌++◌}
 use Rattle.record_core.specs.Counting.{Has, dropped}
 use Rattle.record_core.specs.declared.rows.CutTag.TheVariants as cut
 use Rattle.kt_words.specs.Capacity.{block_units}
@@ -36,10 +36,11 @@ outcome_as (ends.Trapped trap) = Gave (Trapped trap)
 outcome_as ends.RefusedNull = WasCut Null IsNull
 outcome_as ends.RefusedLimit = WasCut Limit IsLimit
 
--- a task ends by a refusal only where this was its last answer; that the limit is met was answered to it
+-- A task gives a value only where nothing was refused to it, and ends by a refusal only where this was its last answer; that the limit is
+-- met was answered to it.
 abbrev pub WasRefused : Outcome → Running → View → Type 0
-WasRefused (ends.Number n) x v = Unit {0}
-WasRefused (ends.Trapped trap) x v = Unit {0}
+WasRefused (ends.Number n) x v = x.refused ≡ None
+WasRefused (ends.Trapped trap) x v = x.refused ≡ None
 WasRefused ends.RefusedNull x v = x.refused ≡ Some cut.Null
 WasRefused ends.RefusedLimit x v = (x.refused ≡ Some cut.Limit) × Has (record { asker = OfTask x.task; refusal = IsLimit }) v.answers
 

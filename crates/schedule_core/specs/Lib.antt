@@ -6,7 +6,6 @@ pub mod FrameWords
 pub mod Taking
 pub mod Completing
 pub mod Publishing
-pub mod Behinds
 pub mod NextNumbers
 pub mod NextPlaces
 pub mod Respawning
@@ -15,4 +14,10 @@ pub mod Numbers
 pub mod Making
 pub mod PastFrames
 pub mod SeenTasks
+pub mod NewTasks
 pub mod Spawning
+pub mod Hosting
+pub mod NamedRoots
+pub mod RootStages
+pub mod SpawningAll
+pub mod Moves

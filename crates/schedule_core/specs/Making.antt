@@ -4,13 +4,14 @@ use Rattle.record_core.specs.Counting.{Has, times, dropped}
 use Rattle.kt_words.specs.Capacity.{block_units}
 use Rattle.kt_words.specs.HeadWords.{closed_word}
 use Rattle.task_syntax.specs.declared.program.Program.{Program}
+use Rattle.task_syntax.specs.declared.value.Priority.{Priority}
 use Rattle.task_meaning.specs.Worths.{Accepted}
 use Rattle.ready_queues.specs.declared.entry.Entry.{Entry}
 use Rattle.frame_code.specs.Frames.{IsFrame}
 use Rattle.frame_code.specs.Names.{named}
 use Rattle.frame_code.specs.Words.{body_at}
 use Rattle.kt_words.specs.declared.plan.Plan.{Plan}
-use Rattle.table_core.specs.Addresses.{Addr, refs, head, task}
+use Rattle.table_core.specs.Addresses.{Addr, state, refs, head, task}
 use Rattle.table_core.specs.Asking.{Drawn}
 use Rattle.table_core.specs.Holdings.{Made as MadeOf, Waiter, Sight, SawTask, seen_at}
 use Rattle.table_core.specs.Own.{known_in}
@@ -21,7 +22,7 @@ use Rattle.table_core.specs.declared.setup.Setup.{Setup}
 use Rattle.table_core.specs.declared.view.View.{View}
 use Rattle.schedule_rule.specs.Calls.{task_in, after_in}
 use Rattle.schedule_rule.specs.DrawViews.{changed}
-use Rattle.schedule_rule.specs.Frames.{BagSound}
+use Rattle.schedule_rule.specs.Frames.{HoldsNames, BagSound}
 use Rattle.schedule_rule.specs.LifeViews.{count_in}
 use Rattle.schedule_rule.specs.PlacingViews.{is_drawn, IsFirstFrame}
 use Rattle.schedule_rule.specs.SoundViews.{SoundView}
@@ -122,12 +123,37 @@ abbrev pub Enters : ℕ → ℕ → Option Behind → Option Entry → List (Add
 Enters unit number behind None steps = (b : Behind) × (behind ≡ Some b)
 Enters unit number behind (Some e) steps = (e.unit ≡ unit) × (e.number ≡ number) × ((behind ≡ None) ⊎ ((b : Behind) × (behind ≡ Some b) × Has (head b.unit, closed_word) steps))
 
+-- what is behind no task is ready with this priority
+abbrev pub IsReadyWith : Priority → Option Behind → Option Entry → Type 0
+IsReadyWith priority behind told = behind ≡ None → IfSome told (λ e. e.priority ≡ priority)
+
+-- the list of the record at u was looked at in these steps, and never found closed
+abbrev pub FoundOpen : ℕ → List (Addr × ℕ) → Type 0
+FoundOpen u steps = ((word : ℕ) × Has (head u, word) steps) × ¬ Has (head u, closed_word) steps
+
+-- so it was since the number of the record at the unit was placed
+pub record StaysOpen (unit u : ℕ) (steps : List (Addr × ℕ)) : Type 0 where
+  pub later : List (Addr × ℕ)
+  pub before : List (Addr × ℕ)
+  pub found : ℕ
+  pub parts : steps ≡ later ++ (state unit, found) ∷ before
+  pub unclosed : FoundOpen u later
+
+-- where no entry is given, the list of the predecessor stayed open
+abbrev pub WaitsOpen : ℕ → Option Behind → Option Entry → List (Addr × ℕ) → Type 0
+WaitsOpen unit behind told steps = IfSome behind (λ b. told ≡ None → StaysOpen unit b.unit steps)
+
+-- The entry of the waiter at the unit, under its number: the list of the record at u was found closed. None is given: it never was.
+abbrev pub EntersClosed : ℕ → ℕ → View → Option Entry → List (Addr × ℕ) → Type 0
+EntersClosed unit u old None steps = FoundOpen u steps
+EntersClosed unit u old (Some e) steps = (e.unit ≡ unit) × ((w : Waiter) → waiter_in unit old.waiting ≡ Some w → e.number ≡ w.number) × Has (head u, closed_word) steps
+
 -- The waiter at the unit is in no hand any more: it stands in the list of its predecessor, or this call found that closed, and an entry is
 -- given for it, which is ready.
 pub record JoinsBehind (g : Setup) (unit : ℕ) (behind : Behind) (old : View) (told : Option Entry) (new : View) : Type 0 where
   pub steps : List (Addr × ℕ)
   pub since : new.seen ≡ steps ++ old.seen
-  pub enters : IfSome told (λ e. (e.unit ≡ unit) × ((w : Waiter) → waiter_in unit old.waiting ≡ Some w → e.number ≡ w.number) × Has (head behind.unit, closed_word) steps)
+  pub enters : EntersClosed unit behind.unit old told steps
   pub facts : Grows old.facts new.facts
   pub sights : Grows old.sights new.sights
   pub sound : SoundView g new
@@ -139,14 +165,15 @@ pub record PlacesNew (g : Setup) (made : Made) (number : ℕ) (behind : Option B
   pub steps : List (Addr × ℕ)
   pub since : new.seen ≡ steps ++ old.seen
   pub enters : Enters made.unit number behind told.1 steps
+  pub waits : WaitsOpen made.unit behind told.1 steps
   pub facts : Grows old.facts new.facts
   pub sees : Has (SawTask made.unit number) new.sights
   pub kept : (s : Sight) → Has s old.sights → 1 ≤ times (seen_at s) new.futures → Has s new.sights
   pub sound : SoundView g new
   pub view_is : new ≡ record (placed_made false g.checked made number x old) { facts = new.facts; sights = new.sights; tries = new.tries; seen = new.seen }
 
--- A new record may be placed with its first frame: beside what its words and rows need, the frame is the first one of the call, the asker
--- is past the act afterwards, and one reference more is enough then.
+-- A new record may be placed with its first frame: beside what its words and rows need, the frame is the first one of the call and names
+-- what its state holds, the asker is past the act afterwards, and one reference more is enough then.
 pub record MayOffer (g : Setup) (made : Made) (number : ℕ) (behind : Option Behind) (words : List ℕ) (x : Placement) (v : View) : Type 0 where
   pub fills : MayFillNew g made number (task_behind behind) words v
   pub words_are : x.words ≡ words
@@ -155,6 +182,7 @@ pub record MayOffer (g : Setup) (made : Made) (number : ℕ) (behind : Option Be
   pub there : Has drawn v.drawn
   pub number_is : drawn.number ≡ number
   pub first : IsFirstFrame g.checked v x.call (body_at g.checked (slice_index words))
+  pub names : HoldsNames g.checked (body_at g.checked (slice_index words))
   pub predecessor : KnowsPredecessor g.plan behind v
   pub asked : IsFor g drawn x.asked v
   pub covers : BagSound g.checked (record { futures = made.unit ∷ v.futures; runs = runs_past x.asked v.runs })
@@ -165,6 +193,7 @@ pub record Offers (g : Setup) (made : Made) (number : ℕ) (behind : Option Behi
   pub steps : List (Addr × ℕ)
   pub since : new.seen ≡ steps ++ old.seen
   pub enters : Enters made.unit number behind told.1 steps
+  pub waits : WaitsOpen made.unit behind told.1 steps
   pub facts : Grows old.facts new.facts
   pub sees : Has (SawTask made.unit number) new.sights
   pub kept : (s : Sight) → Has s old.sights → 1 ≤ times (seen_at s) new.futures → Has s new.sights

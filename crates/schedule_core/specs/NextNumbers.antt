@@ -1,12 +1,10 @@
 -- What is needed to draw the number of a running task's next activation, and what that leaves.
 use Rattle.std.specs.Prelude.{◌≡◌, ℕ, ◌<◌, ◌≤◌, Option, Some, None, IfSome, List, ◌∷◌, ◌++◌}
-use Rattle.record_core.specs.Counting.{Has, times}
-use Rattle.kt_words.specs.declared.plan.Plan.{Plan}
+use Rattle.record_core.specs.Counting.{At, Has, times}
 use Rattle.task_meaning.specs.Worths.{Respawn}
 use Rattle.frame_code.specs.Words.{BodyOf, OfKind, OfMembers, body_of}
 use Rattle.table_core.specs.Addresses.{Addr, sum, task as task_word}
 use Rattle.table_core.specs.Asking.{OfTask, IsLimit}
-use Rattle.table_core.specs.Holdings.{SawTask}
 use Rattle.table_core.specs.Story.{IsAccepted}
 use Rattle.table_core.specs.Views.{saw}
 use Rattle.table_core.specs.declared.setup.Setup.{Setup}
@@ -15,10 +13,11 @@ use Rattle.schedule_rule.specs.DrawViews.{permitted, asking_again, drawn_for}
 use Rattle.schedule_rule.specs.SoundViews.{IsUpTo, SoundView}
 use Rattle.step_table.specs.DrawSteps.{Asking}
 use Rattle.step_table.specs.RecordHands.{HasFuture}
-use Rattle.schedule_core.specs.Behinds.{task_behind, unit_behind}
+use Rattle.schedule_core.specs.Making.{KnowsPredecessor, task_behind}
 use Rattle.schedule_core.specs.References.{Grows}
 use Rattle.schedule_core.specs.Runs.{IsInStep}
-use Rattle.schedule_core.specs.declared.behinds.Behind.{Behind}
+use Rattle.schedule_core.specs.SeenTasks.{unit_behind}
+use Rattle.schedule_core.specs.declared.making.Behind.{Behind}
 use Rattle.schedule_core.specs.declared.running.Running.{Running}
 
 -- the total of drawn numbers is seen for the task
@@ -29,16 +28,16 @@ asking_for task = record { asker = Some (OfTask task); move = None }
 abbrev pub IsOpened : Setup → View → View → Type 0
 IsOpened g old new = (found : ℕ) × (found < g.plan.limit) × (new ≡ saw (sum 0) found (permitted old))
 
--- the frame is a task's, and no aggregate's
-abbrev pub IsTask : BodyOf ℕ → Type 0
-IsTask (OfKind q) = Unit {0}
-IsTask (OfMembers units next) = ⊥
+-- an aggregate's next activation is to be behind its next member, by the unit of that one's record
+abbrev pub IsNextUnit : Option ℕ → BodyOf ℕ → Type 0
+IsNextUnit wanted (OfKind q) = Unit {0}
+IsNextUnit wanted (OfMembers units next) = (u : ℕ) × At units next u × (wanted ≡ Some u)
 
 -- A number may be drawn for the next activation of a running task, which is to be behind the task of the record at this unit, or none.
 pub record MayNumber (g : Setup) (x : Running) (wanted : Option ℕ) (v : View) : Type 0 where
   pub base : View
   pub in_step : IsInStep g x base
-  pub single : IsTask (body_of g.checked x.frame.items)
+  pub next : IsNextUnit wanted (body_of g.checked x.frame.items)
   pub opened : IsOpened g base v
   pub has : IfSome wanted (λ u. HasFuture g.plan u v)
 
@@ -55,11 +54,6 @@ drew_next unit task behind n v = record v {
 abbrev pub SawBehind : Option Behind → List (Addr × ℕ) → Type 0
 SawBehind None steps = Unit {0}
 SawBehind (Some b) steps = Has (task_word b.unit, b.task) steps
-
--- the pass has a reference to the record of the predecessor, and saw its task there
-abbrev pub KnowsPredecessor : Plan → Option Behind → View → Type 0
-KnowsPredecessor g None v = Unit {0}
-KnowsPredecessor g (Some b) v = HasFuture g b.unit v × Has (SawTask b.unit b.task) v.sights
 
 -- The running task has a number for its next activation, and both rows of the number are written. What the activation is behind is known.
 pub record HasNumber (g : Setup) (x : Running) (wanted : Option ℕ) (number : ℕ) (behind : Option Behind) (old new : View) : Type 0 where

@@ -17,18 +17,18 @@ use Rattle.table_core.specs.WaitViews.{is_run_at}
 use Rattle.table_core.specs.declared.setup.Setup.{Setup}
 use Rattle.table_core.specs.declared.view.View.{View}
 use Rattle.schedule_rule.specs.DrawViews.{drawn_for}
+use Rattle.schedule_rule.specs.Frames.{HoldsNames}
 use Rattle.schedule_rule.specs.LifeViews.{answers_left}
 use Rattle.schedule_rule.specs.PlacingViews.{less, is_drawn, IsNextFrame}
 use Rattle.step_table.specs.RecordHands.{RunAt}
 use Rattle.schedule_core.specs.Bags.{IsSpare}
-use Rattle.schedule_core.specs.Behinds.{task_behind}
-use Rattle.schedule_core.specs.NextNumbers.{KnowsPredecessor}
+use Rattle.schedule_core.specs.Making.{KnowsPredecessor, task_behind}
 use Rattle.schedule_core.specs.References.{Grows}
-use Rattle.schedule_core.specs.declared.behinds.Behind.{Behind}
+use Rattle.schedule_core.specs.declared.making.Behind.{Behind}
 
 -- The run at the unit drew the number for its next activation, which is behind this task or none, and has no other to place. The words
--- are the frame of that activation, which fits into the record; the pass has a reference for each unit that they name, beside what its
--- other runs need.
+-- are the frame of that activation, which fits into the record and names a unit for each future that is held there; the pass has a
+-- reference for each unit that they name, beside what its other runs need.
 pub record MayPlaceFrame (g : Setup) (unit number : ℕ) (after : Option ℕ) (words : List ℕ) (v : View) : Type 0 where
   pub run : Run
   pub at : RunAt g.plan unit v run
@@ -41,6 +41,7 @@ pub record MayPlaceFrame (g : Setup) (unit number : ℕ) (after : Option ℕ) (w
   pub frame : IsFrame g.checked words
   pub fits : length words ≤ 8 * block_units run.class
   pub next : IsNextFrame g.checked (body_at g.checked (slice_index run.words)) (body_of g.checked words)
+  pub names : HoldsNames g.checked (body_of g.checked words)
   pub spare : IsSpare g.checked unit (named_in g.checked words) v
 
 -- and the predecessor is known

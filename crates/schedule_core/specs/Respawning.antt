@@ -1,5 +1,5 @@
 -- What a respawn and a retry need, and what they tell.
-use Rattle.std.specs.Prelude.{◌≡◌, ℕ, ◌-◌, ◌⊎◌, true, Option, Some, None, IfSome, List, ◌∷◌, ◌++◌, length}
+use Rattle.std.specs.Prelude.{◌≡◌, ℕ, ◌-◌, ◌<◌, ◌⊎◌, true, cond, Option, Some, None, IfSome, List, ◌∷◌, ◌++◌, length, slice_get, slice_index}
 use Rattle.record_core.specs.Counting.{dropped}
 use Rattle.record_core.specs.declared.rows.CutTag.TheVariants as cut
 use Rattle.task_syntax.specs.declared.columns.Columns.{Columns}
@@ -10,6 +10,8 @@ use Rattle.task_syntax.specs.declared.value.Priority.TheVariants.{Low}
 use Rattle.task_meaning.specs.Meant.{future_at}
 use Rattle.task_meaning.specs.Worths.{Respawn}
 use Rattle.ready_queues.specs.declared.entry.Entry.{Entry}
+use Rattle.frame_code.specs.Control.{is_aggregate}
+use Rattle.frame_code.specs.Members.{member_act}
 use Rattle.frame_code.specs.Setting.{BodyHasSort}
 use Rattle.frame_code.specs.Stops.{StopsAt}
 use Rattle.frame_code.specs.Units.{named_in}
@@ -25,36 +27,40 @@ use Rattle.table_core.specs.declared.view.View.{View}
 use Rattle.schedule_rule.specs.LifeViews.{answers_left}
 use Rattle.schedule_rule.specs.PlacingViews.{less}
 use Rattle.schedule_rule.specs.SoundViews.{IsUpTo}
-use Rattle.schedule_core.specs.Behinds.{task_behind, unit_behind}
+use Rattle.schedule_core.specs.Making.{task_behind}
 use Rattle.schedule_core.specs.NextNumbers.{HasNumber, MetLimitNext, SawBehind}
 use Rattle.schedule_core.specs.NextPlaces.{EntersAgain}
 use Rattle.schedule_core.specs.References.{Grows}
 use Rattle.schedule_core.specs.Runs.{IsInStep}
+use Rattle.schedule_core.specs.SeenTasks.{unit_behind}
 use Rattle.schedule_core.specs.declared.answers.Respawned.{Respawned}
 use Rattle.schedule_core.specs.declared.answers.Respawned.TheVariants as respawned
-use Rattle.schedule_core.specs.declared.behinds.Behind.{Behind}
+use Rattle.schedule_core.specs.declared.making.Behind.{Behind}
 use Rattle.schedule_core.specs.declared.running.Running.{Running}
 
--- the unit that a task names which is to be behind the future in this variable, if in any
+-- the unit that a task names which is to be behind the future in this variable, if in any; an aggregate is behind the member at this
+-- position
 abbrev pub unit_next : BodyOf ℕ → Option ℕ → Option ℕ
 unit_next (OfKind q) None = None
 unit_next (OfKind q) (Some x) = future_at q.futures x
-unit_next (OfMembers units next) x = None
+unit_next (OfMembers units next) None = None
+unit_next (OfMembers units next) (Some position) = slice_get units position
 
--- the variable is a future of the frame, if one is given
+-- the variable is a future of the frame, or the position one of its members, if one is given
 abbrev pub MayName : Program → Option ℕ → BodyOf ℕ → Type 0
 MayName p x (OfKind q) = IfSome x (λ at. BodyHasSort p FutureSort at (OfKind q))
-MayName p x (OfMembers units next) = ⊥
+MayName p x (OfMembers units next) = IfSome x (λ position. position < length units)
 
--- a task stands at its respawn, behind a future of its frame or none
+-- a task stands at its respawn; an aggregate asks to be behind its next member
 abbrev pub AsksAgain : Program → Columns → RespawnRequest → BodyOf ℕ → Type 0
-AsksAgain p c request (OfKind q) = StopsAt p c q (act.Again request) × MayName p request.behind (OfKind q)
-AsksAgain p c request (OfMembers units next) = ⊥
+AsksAgain p c request (OfKind q) = StopsAt p c q (act.Again request)
+AsksAgain p c request (OfMembers units next) = member_act (slice_get units next) next ≡ act.Again request
 
--- a running task asks for its next activation where its frame stands
+-- a running task asks for its next activation where its frame stands, and nothing was refused to it
 pub record MayRespawn (g : Setup) (x : Running) (request : RespawnRequest) (v : View) : Type 0 where
   pub in_step : IsInStep g x v
   pub asks : AsksAgain g.checked g.columns request (body_of g.checked x.frame.items)
+  pub unrefused : x.refused ≡ None
 
 -- The task has a next activation, under the next number: behind the task of the record at this unit, or behind none. The pass runs it no
 -- more, and has none of the references that its frame named: those of the next activation's frame are the record's, and the others are
@@ -99,9 +105,13 @@ GoesOn g x wanted priority old respawned.Waits new = HasRespawned g x wanted pri
 GoesOn g x wanted priority old (respawned.Ready e) new = HasRespawned g x wanted priority old (Some e) new
 GoesOn g x wanted priority old (respawned.Over back) new = IsLimited g x old back new
 
+-- the priority of the next activation: an aggregate keeps that of its running one
+abbrev pub priority_next : Running → RespawnRequest → Priority
+priority_next x request = cond (is_aggregate (slice_index x.frame.items 0)) x.priority request.priority
+
 -- by a respawn
 abbrev pub Respawns : Setup → Running → RespawnRequest → View → Respawned → View → Type 0
-Respawns g x request = GoesOn g x (unit_next (body_of g.checked x.frame.items) request.behind) request.priority
+Respawns g x request = GoesOn g x (unit_next (body_of g.checked x.frame.items) request.behind) (priority_next x request)
 
 -- how many references a pass counts that had so many before
 abbrev pub held_respawned : Setup → Running → ℕ → Respawned → ℕ

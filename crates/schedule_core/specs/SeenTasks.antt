@@ -2,7 +2,12 @@
 use Rattle.std.specs.Prelude.{◌≡◌, ℕ, ◌==◌, Option, Some, None, cond, List, [], ◌∷◌}
 use Rattle.record_core.specs.Counting.{At}
 use Rattle.table_core.specs.Holdings.{Sight, SawHead, SawTask, SawDone}
+use Rattle.table_core.specs.Addresses.{task}
+use Rattle.table_core.specs.Story.{IsTask}
+use Rattle.table_core.specs.Views.{saw}
 use Rattle.table_core.specs.declared.view.View.{View}
+use Rattle.schedule_rule.specs.LifeViews.{knowing}
+use Rattle.schedule_rule.specs.SeeingViews.{saw_task}
 use Rattle.schedule_core.specs.References.{Grows}
 use Rattle.schedule_core.specs.declared.making.Behind.{Behind}
 
@@ -26,8 +31,7 @@ pub record SeesEach (units : List ℕ) (old new : View) : Type 0 where
   pub seen : Grows old.seen new.seen
   pub view_is : new ≡ record old { sights = new.sights; facts = new.facts; seen = new.seen }
 
--- the predecessor's task was seen, if there is one, and nothing else has changed
-abbrev pub SeesBehind : Option Behind → View → View → Type 0
-SeesBehind None old new = new ≡ old
-SeesBehind (Some b) old new = (task_seen b.unit new.sights ≡ Some b.task) × Grows old.sights new.sights × Grows old.facts new.facts × Grows old.seen new.seen
-    × (new ≡ record old { sights = new.sights; facts = new.facts; seen = new.seen })
+-- the task of the predecessor, if there is one, was seen at its record
+abbrev pub with_behind : Option Behind → View → View
+with_behind None v = v
+with_behind (Some b) v = knowing (IsTask b.task ∷ []) (saw (task b.unit) b.task (saw_task b.unit b.task v))

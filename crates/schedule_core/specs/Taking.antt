@@ -6,6 +6,7 @@ use Rattle.record_core.specs.Counting.{Has}
 use Rattle.kt_words.specs.StateWords.{FitsStateWord, packed_state}
 use Rattle.kt_words.specs.declared.phase.Phase.TheVariants.{Ready}
 use Rattle.kt_words.specs.declared.state_word.StateWord.{StateWord}
+use Rattle.task_syntax.specs.declared.value.Priority.{Priority}
 use Rattle.task_meaning.specs.Worths.{Accepted}
 use Rattle.ready_queues.specs.Moments.{Moment, TellsTake}
 use Rattle.ready_queues.specs.declared.entry.Entry.{Entry}
@@ -40,9 +41,9 @@ pub record TookRecord (g : Setup) (started : Started) (old new : View) : Type 0 
   pub bag : BagSound g.checked (record { futures = old.futures; runs = old.runs })
   pub sound : SoundView g new
 
--- The record at the unit was ready under the number, and is a run of the pass: it has the call of the number, the task and the
+-- The record at the unit was ready under the number, with this priority, and is a run of the pass: it has the call of the number, the task and the
 -- predecessor of that call, and the frame that stands in the record's block. The pass had not taken the number before.
-pub record TakesRun (g : Setup) (unit number : ℕ) (old : View) (x : Running) (new : View) : Type 0 where
+pub record TakesRun (g : Setup) (unit number : ℕ) (priority : Priority) (old : View) (x : Running) (new : View) : Type 0 where
   pub class : ℕ
   pub words : List ℕ
   pub call : Accepted
@@ -52,6 +53,7 @@ pub record TakesRun (g : Setup) (unit number : ℕ) (old : View) (x : Running) (
   pub number_is : x.started.number ≡ number
   pub task_is : x.task ≡ task_in (Some call) number
   pub after_is : x.after ≡ after_in (Some call)
+  pub priority_is : x.priority ≡ priority
   pub refused_is : x.refused ≡ None
   pub is_front : x.frame.items ≡ front g.checked (slice_index words)
   pub untaken : HasNoNumber number old
@@ -62,8 +64,8 @@ pub record TakesRun (g : Setup) (unit number : ℕ) (old : View) (x : Running) (
   pub in_step : IsInStep g x new
 
 -- the value is the run that was taken, whatever the view was before
-abbrev pub RunsTaken : Setup → Started → View → Running → View → Type 0
-RunsTaken g started v x new = (before : View) → TookRecord g started before v → TakesRun g started.unit started.number before x new
+abbrev pub RunsTaken : Setup → Started → Priority → View → Running → View → Type 0
+RunsTaken g started priority v x new = (before : View) → TookRecord g started before v → TakesRun g started.unit started.number priority before x new
 
 -- The state word that was found at a unit of the table is not that of a record that is ready as the entry says. Outside the table none
 -- is read, and the word is that of a unit in no use.
@@ -92,7 +94,7 @@ run_of (Ok x) = Some x
 run_of (Err found) = None
 
 abbrev pub TakesEntry : Setup → Entry → View → Result Running StateWord → View → Type 0
-TakesEntry g entry old (Ok x) new = TakesRun g entry.unit entry.number old x new
+TakesEntry g entry old (Ok x) new = TakesRun g entry.unit entry.number entry.priority old x new
 TakesEntry g entry old (Err found) new = Passes g entry old found new
 
 -- a step found a queue to have been full before
@@ -121,7 +123,7 @@ pub record HasTaken (g : Setup) (started : Started) (held : ℕ) (v : View) : Ty
 
 -- What a sweep tells: a record that it saw ready was taken, or was not ready any more; or it saw none.
 abbrev pub Sweeps : Setup → View → Taken → View → Type 0
-Sweeps g old (taken.Task x) new = (entry : Entry) × SawReady entry old new × TakesRun g entry.unit entry.number old x new
+Sweeps g old (taken.Task x) new = (entry : Entry) × SawReady entry old new × TakesRun g entry.unit entry.number entry.priority old x new
 Sweeps g old (taken.Passed entry found) new = SawReady entry old new × Passes g entry old found new
 Sweeps g old taken.Empty new = SawNoneReady g old new × Grows old.sights new.sights × (new ≡ record old { sights = new.sights; seen = new.seen })
 
@@ -135,7 +137,7 @@ TakesSpilled g old taken.Empty new = (SawNoSpill old new ⊎ SawNoneReady g old 
 -- entry that was the front of its queue; or the queues were empty, and what the spilled entries name.
 module _ (g : Setup) (lanes begun : ℕ) (saw : Moment → Type 0) (old : View) where
   abbrev pub Takes : Taken → View → Type 0
-  Takes (taken.Task x) new = ((entry : Entry) × TellsTake lanes begun saw (Some entry) × TakesRun g entry.unit entry.number old x new)
+  Takes (taken.Task x) new = ((entry : Entry) × TellsTake lanes begun saw (Some entry) × TakesRun g entry.unit entry.number entry.priority old x new)
       ⊎ (TellsTake lanes begun saw None × TakesSpilled g old (taken.Task x) new)
   Takes (taken.Passed entry found) new = (TellsTake lanes begun saw (Some entry) × Passes g entry old found new)
       ⊎ (TellsTake lanes begun saw None × TakesSpilled g old (taken.Passed entry found) new)

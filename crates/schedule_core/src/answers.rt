@@ -16,6 +16,20 @@ pub enum Spawned {
     Over,
 }
 
+/// What came of asking for a root. The root's word says the same.
+#[derive(Debug, Clone, Copy, PartialEq, Eq)]
+pub enum HostSpawned {
+    /// A new task, whose reference is in the root's word. An entry is given where nothing is waited
+    /// for.
+    Named(Option<Entry>),
+    /// The pool had no block.
+    Null,
+    /// The limit of activations is met.
+    Over,
+    /// The line names this root, which has no task.
+    Skipped(u8),
+}
+
 /// What came of a respawn.
 #[derive(Drop)]
 pub enum Respawned {

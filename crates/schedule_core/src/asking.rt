@@ -28,8 +28,8 @@ pub(crate) fn make_in(shared: &Shared, pass: &mut Pass, block: Block) -> Option<
     }
 }
 
-// A made record without a number is given back.
-fn give_back(shared: &Shared, pass: &mut Pass, made: Made)
+/// A made record without a number is given back.
+pub(crate) fn give_back(shared: &Shared, pass: &mut Pass, made: Made)
     requires table { IsOf shared.now pass.old }
     requires may { MayUnmake (plan shared.now) made.unit made.class (view pass.old) }
     ensures pass { IsSame pass.old pass.new }

@@ -8,19 +8,23 @@
 
 mod answers;
 mod asking;
-mod behinds;
 mod completing;
 mod entries;
 mod frames;
+mod hosting;
 mod making;
+mod moves;
+mod named_roots;
+mod new_tasks;
 mod references;
 mod respawning;
 mod running;
 mod scheduler;
 mod sights;
 mod spawning;
+mod spawning_all;
 mod taking;
 
-pub use answers::{Outcome, Respawned, Spawned, Taken};
+pub use answers::{HostSpawned, Outcome, Respawned, Spawned, Taken};
 pub use running::Running;
 pub use scheduler::Scheduler;

@@ -6,7 +6,7 @@ ghost use Rattle.step_table.specs.PlacingSteps.{Placement};
 ghost use Rattle.wait_lists.specs.Joining.{MayJoin};
 ghost use Rattle.schedule_core.specs.Making.{MayWriteWords, WritesWords, MayWriteRows, WritesRows};
 ghost use Rattle.schedule_core.specs.Making.{task_behind, MayFillNew, FillsNew, JoinsBehind};
-ghost use Rattle.schedule_core.specs.Making.{MayPlaceNew, PlacesNew, MayOffer, Offers};
+ghost use Rattle.schedule_core.specs.Making.{MayPlaceNew, PlacesNew, IsReadyWith, MayOffer, Offers};
 
 use crate::entries::entry_of;
 use crate::frames::write_frame;
@@ -24,8 +24,8 @@ pub(crate) struct Behind {
     pub task: u32,
 }
 
-// The task of a predecessor, if there is one.
-fn task_of(behind: Option<Behind>) -> Option<u32>
+/// The task of a predecessor, if there is one.
+pub(crate) fn task_of(behind: Option<Behind>) -> Option<u32>
     ensures { result ≡ task_behind behind }
 {
     match behind {
@@ -125,6 +125,7 @@ fn place(
     ensures pass { IsSameWith (pass.old.held + 1) pass.old pass.new }
     ensures placed { PlacesNew shared.now.setup made number behind placement
         (view pass.old) result (view pass.new) }
+    ensures ready { IsReadyWith priority behind result.1 }
 {
     let unit = made.unit();
     match behind {
@@ -162,6 +163,7 @@ pub(crate) fn offer(
     ensures pass { IsSameWith (pass.old.held + 1) pass.old pass.new }
     ensures offered { Offers shared.now.setup made number behind placement
         (view pass.old) result (view pass.new) }
+    ensures ready { IsReadyWith priority behind result.1 }
 {
     let held = pass.held();
     fill_new(shared, code, pass, &made, number, task_of(behind), first);

@@ -41,8 +41,8 @@ pub(crate) fn take_named(shared: &Shared, pass: &mut Pass, words: &[u64])
     }
 }
 
-// The reference to the record at the unit is given up, if one is named.
-fn drop_if(shared: &Shared, pass: &mut Pass, unit: Option<u64>)
+/// The reference to the record at the unit is given up, if one is named.
+pub(crate) fn drop_if(shared: &Shared, pass: &mut Pass, unit: Option<u64>)
     requires table { IsOf shared.now pass.old }
     requires may { MayDropEach shared.now.setup (option_to_list unit) (view pass.old) }
     ensures pass { IsSameWith (pass.old.held - length (option_to_list unit)) pass.old pass.new }

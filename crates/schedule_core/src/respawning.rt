@@ -9,17 +9,21 @@ ghost use Rattle.step_table.specs.Sound.{AreSound};
 ghost use Rattle.schedule_core.specs.References.{MayDropEach, DropsEach};
 ghost use Rattle.schedule_core.specs.NextNumbers.{MayNumber, NumbersNext};
 ghost use Rattle.schedule_core.specs.NextPlaces.{MayPlaceFrame, MayPlaceBehind, PlacesAgain};
-ghost use Rattle.schedule_core.specs.Respawning.{unit_next, MayName, MayRespawn, Respawns};
+ghost use Rattle.schedule_core.specs.Respawning.{unit_next, priority_next};
+ghost use Rattle.schedule_core.specs.Respawning.{MayName, MayRespawn, Respawns};
 ghost use Rattle.schedule_core.specs.Respawning.{MayEnterNext, EntersNext, held_respawned};
 ghost use Rattle.schedule_core.specs.Respawning.{limited, MayRetry, Retries, MayStay, Stays};
 
 use crate::answers::Respawned;
-use crate::behinds::{Behind, join, see_behind, task_of};
 use crate::entries::entry_of;
 use crate::frames::{count_named, write_frame};
+use crate::making::{Behind, join, task_of};
 use crate::running::Running;
 use crate::scheduler::Scheduler;
-use frame_code::{CheckedCode, Few, Frame, RespawnRequest, enter_held, future, naming_words};
+use crate::sights::see_behind;
+use frame_code::{
+    CheckedCode, Few, Frame, RespawnRequest, enter_held, future, is_aggregate, member, naming_words,
+};
 use future_refs::{clone_future, drop_future};
 use ready_queues::{Entry, ReadyStore};
 use record_core::CutTag;
@@ -106,7 +110,7 @@ fn place_behind(
     let kept = clone_future(shared, pass, &named);
     write_frame(shared, pass, unit, next);
     let waiter = shared.wait_again(pass, started, number, next.as_slice(), priority);
-    let entry = join(shared, pass, waiter, &kept);
+    let entry = join(shared, pass, waiter, behind);
     drop_future(shared, pass, kept);
     entry
 }
@@ -151,21 +155,39 @@ fn drop_units(shared: &Shared, pass: &mut Pass, units: &[u64])
     }
 }
 
-// The unit that a future variable of the frame names, if one is given.
-fn unit_of(code: &CheckedCode, frame: &Frame, variable: Option<u16>) -> Option<u32>
+// The unit that the next activation is to be behind, if one is named: by a future variable of a
+// task's frame, or by the position of a member of an aggregate.
+fn unit_of(code: &CheckedCode, frame: &Frame, behind: Option<u16>) -> Option<u32>
     requires frame { IsFrame code.now frame.now.items }
-    requires names { MayName code.now variable (body_of code.now frame.now.items) }
-    requires small { IfSome (unit_next (body_of code.now frame.now.items) variable)
+    requires names { MayName code.now behind (body_of code.now frame.now.items) }
+    requires small { IfSome (unit_next (body_of code.now frame.now.items) behind)
         (λ u. u < 2 ^ 32) }
-    ensures { result ≡ unit_next (body_of code.now frame.now.items) variable }
+    ensures { result ≡ unit_next (body_of code.now frame.now.items) behind }
 {
-    let variable = variable?;
-    let unit = future(code, frame, variable)?;
+    let behind = behind?;
+    if is_aggregate(frame) {
+        let unit = member(frame, behind);
+        return Some(unit as u32);
+    }
+    let unit = future(code, frame, behind)?;
     Some(unit as u32)
 }
 
+// The priority of the next activation. An aggregate keeps that of its running one.
+fn priority_after(running: &Running, request: &RespawnRequest) -> Priority
+    requires { 0 < length running.now.frame.items }
+    ensures { result ≡ priority_next running.now request.now }
+{
+    if is_aggregate(&running.frame) {
+        running.priority
+    } else {
+        request.priority
+    }
+}
+
 // The number of the next activation is drawn: its frame is that of the state to which the task
-// respawns, and the futures that are not held there are given up.
+// respawns, and the futures that are not held there are given up. An aggregate's has the same
+// members.
 fn enter_next(
     shared: &Shared,
     code: &CheckedCode,
@@ -185,13 +207,14 @@ fn enter_next(
     ensures entered { EntersNext shared.now.setup running number behind request.now
         (view pass.old) result (view pass.new) }
 {
+    let _program = code.program();
     let held = pass.held();
+    let priority = priority_after(&running, request);
     let Running { started, frame, .. } = running;
     let named = count_named(naming_words(code, &frame));
     let mut next = frame;
     let mut given_up = Few::new();
     enter_held(code, &mut next, request.target, &mut given_up);
-    let priority = request.priority;
     let entry = place_again(shared, pass, started, number, behind, &next, priority);
     drop_units(shared, pass, given_up.as_slice());
     pass.keep_count(held - named);
@@ -210,8 +233,8 @@ fn refused(running: Running) -> Respawned
     Respawned::Over(back)
 }
 
-// Ends a running activation whose task goes on by a next one, behind a future of its frame or none.
-// Over: the limit is met, and the running task comes back.
+// Ends a running activation whose task goes on by a next one, behind a future of its frame or none;
+// an aggregate behind its next member. Over: the limit is met, and the running task comes back.
 fn respawn(
     shared: &Shared,
     code: &CheckedCode,
@@ -232,6 +255,7 @@ fn respawn(
     if !open {
         return refused(running);
     }
+    let _program = code.program();
     let unit = unit_of(code, &running.frame, request.behind);
     match number_next(shared, pass, &running, unit) {
         None => refused(running),
@@ -288,8 +312,9 @@ fn retry(shared: &Shared, code: &CheckedCode, pass: &mut Pass, running: Running)
 
 impl<Q: ReadyStore> Scheduler<Q> {
     /// Ends a running activation whose task goes on by a next one, behind a future of its frame or
-    /// none. The futures that the next state does not hold are given up. Over: the limit is met,
-    /// and the running task comes back.
+    /// none. The futures that the next state does not hold are given up. An aggregate goes on
+    /// behind its next member, with the priority of this activation. Over: the limit is met, and
+    /// the running task comes back.
     pub fn respawn(
         &self,
         code: &CheckedCode,

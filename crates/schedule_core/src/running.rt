@@ -3,6 +3,7 @@ ghost use Rattle.std.specs.Prelude.{◌≡◌};
 use frame_code::Frame;
 use record_core::CutTag;
 use step_table::Started;
+use task_syntax::Priority;
 
 /// An activation that its pass runs, with the frame of its task as far as the task has come.
 #[derive(Drop)]
@@ -11,6 +12,8 @@ pub struct Running {
     pub(crate) task: u32,
     // The task of its predecessor, if it has one.
     pub(crate) after: Option<u32>,
+    // The priority with which it was ready.
+    pub(crate) priority: Priority,
     // What was refused to it last, if its last request was refused.
     pub(crate) refused: Option<CutTag>,
     pub frame: Frame,

@@ -24,6 +24,7 @@ use task_syntax::{Checked, Columns};
 
 /// The table of a run with the store of what is ready. Any number of threads call it at once, each
 /// with a pass of the table and one of the store.
+#[derive(Drop)]
 pub struct Scheduler<Q: ReadyStore> {
     shared: Shared,
     ready: Q,

@@ -6,7 +6,7 @@ ghost use Rattle.frame_code.specs.Names.{present};
 ghost use Rattle.step_table.specs.Passes.{view, plan, IsOf, IsSame};
 ghost use Rattle.step_table.specs.RecordHands.{HasFuture};
 ghost use Rattle.schedule_core.specs.References.{HasEach};
-ghost use Rattle.schedule_core.specs.SeenTasks.{unit_behind, SeesEach, SeesBehind};
+ghost use Rattle.schedule_core.specs.SeenTasks.{unit_behind, with_behind, SeesEach};
 
 use crate::making::Behind;
 use frame_code::Passed;
@@ -40,13 +40,25 @@ pub(crate) fn see_passed(shared: &Shared, pass: &mut Pass, passed: &[Passed])
     }
 }
 
+/// The task of each of these records is seen.
+pub(crate) fn see_members(shared: &Shared, pass: &mut Pass, units: &[u64])
+    requires table { IsOf shared.now pass.old }
+    requires has { HasEach (plan shared.now) units.now (view pass.old) }
+    ensures pass { IsSame pass.old pass.new }
+    ensures seen { SeesEach units.now (view pass.old) (view pass.new) }
+{
+    'units: for unit in units {
+        see_one(shared, pass, Passed::Future(*unit));
+    }
+}
+
 /// The task of a predecessor is seen, if there is one.
 pub(crate) fn see_behind(shared: &Shared, pass: &mut Pass, unit: Option<u32>) -> Option<Behind>
     requires table { IsOf shared.now pass.old }
     requires has { IfSome unit (λ u. HasFuture (plan shared.now) u (view pass.old)) }
     ensures pass { IsSame pass.old pass.new }
     ensures behind { unit_behind result ≡ unit }
-    ensures seen { SeesBehind result (view pass.old) (view pass.new) }
+    ensures seen { view pass.new ≡ with_behind result (view pass.old) }
 {
     match unit {
         Some(unit) => {

@@ -14,24 +14,27 @@ use frame_code::{CheckedCode, naming_words};
 use kt_words::{Phase, StateWord};
 use ready_queues::Entry;
 use step_table::{Pass, Shared, Started, ready_word};
+use task_syntax::Priority;
 
 // What numbers have room in a state word.
 const NUMBERS: u32 = 16_777_216;
 
 // The value of a record that was taken just now: its task and its predecessor are read, and its
-// frame. `held` is how many references the pass counted before.
+// frame. It was ready with this priority; `held` is how many references the pass counted before.
 fn run_of(
     shared: &Shared,
     code: &CheckedCode,
     pass: &mut Pass,
     started: Started,
+    priority: Priority,
     held: u64,
 ) -> Running
     requires table { IsOf shared.now pass.old }
     requires code { code.now ≡ shared.now.setup.checked }
     requires taken { HasTaken shared.now.setup started held (view pass.old) }
     ensures pass { IsSameWith (held + length (named_in code.now result.frame.items)) pass.old pass.new }
-    ensures run { RunsTaken shared.now.setup started (view pass.old) result (view pass.new) }
+    ensures run { RunsTaken shared.now.setup started priority
+        (view pass.old) result (view pass.new) }
 {
     let after = shared.read_after(pass, &started);
     let task = shared.read_task(pass, &started);
@@ -42,6 +45,7 @@ fn run_of(
         started,
         task,
         after,
+        priority,
         refused: None,
         frame,
     }
@@ -65,7 +69,7 @@ fn take_word(
     let held = pass.held();
     let ready = ready_word(entry.number, entry.priority);
     match shared.take_ready(pass, entry.unit, ready) {
-        Ok(started) => Ok(run_of(shared, code, pass, started, held)),
+        Ok(started) => Ok(run_of(shared, code, pass, started, entry.priority, held)),
         Err(found) => Err(found),
     }
 }

@@ -1,9 +1,10 @@
-use Rattle.std.proofs.Common.{Option, Some, subst, sym}
+use Rattle.std.proofs.Common.{◌≡◌, ◌∙◌, Option, Some, subst, sym}
+use Rattle.std.proofs.lemmas.Option.{none-some}
 use Rattle.schedule_core.specs.Making.{MayPlaceNew, PlacesNew}
 use Rattle.schedule_core.specs.declared.making.Behind.{Behind}
 use Rattle.ready_queues.specs.declared.entry.Entry.{Entry}
 use Rattle.step_table.specs.Passes.{view}
-use Rattle.schedule_core.proofs.Placing.{places-ready, may-join, places-waiting}
+use Rattle.schedule_core.proofs.Placing.{places-ready, may-join, places-waiting, priority-back}
 use Rattle.schedule_core.proofs.making.place.Goals as goal
 
 pub ready_made-requires : goal.ready_made-requires
@@ -33,3 +34,10 @@ pub returns-in-Some-clause-placed : goal.returns-in-Some-clause-placed
 returns-in-Some-clause-placed g c =
     places-waiting c.args.shared.now.setup c.args.made c.args.number g.placement c.in-Some.behind c.args.pass.now c.wait_made.new.pass c.wait_made.ensures.view c.args.behind c.join-entry.result c.wait_made.result.1
     c.wait_made.result.0.unit (view c.join-entry.new.pass) c.in-Some.is c.wait_made.ensures.waiter c.wait_made.ensures.future c.join-entry.ensures.joined
+
+pub returns-in-None-clause-ready : goal.returns-in-None-clause-ready
+returns-in-None-clause-ready g c none =
+    subst (λ (e : Entry). e.priority ≡ c.args.priority) (sym c.entry_of.ensures) (priority-back c.args.priority c.ready_made.result.0 c.args.number c.ready_made.ensures.word)
+
+pub returns-in-Some-clause-ready : goal.returns-in-Some-clause-ready
+returns-in-Some-clause-ready g c none = absurd (none-some c.in-Some.behind (sym none ∙ c.in-Some.is))

@@ -11,7 +11,8 @@ use Rattle.schedule_core.proofs.respawning.number_next.Goals as goal
 pub draw_again-requires-clause-may : goal.draw_again-requires-clause-may
 draw_again-requires-clause-may c =
     subst (λ (o : Option ℕ). MayDrawAgain c.args.shared.now.setup c.args.running.now.started.unit c.args.running.now.task o (view c.see_behind-behind.new.pass)) (sym c.task_of-waits.ensures)
-    (may-draw c.args.shared.now.setup c.args.running.now c.args.unit (view c.args.pass.now) (view c.see_behind-behind.new.pass) c.see_behind-behind.result c.requires.may c.see_behind-behind.ensures.seen)
+    (may-draw c.args.shared.now.setup c.args.running.now c.args.unit (view c.args.pass.now) (view c.see_behind-behind.new.pass) c.see_behind-behind.result c.requires.may c.see_behind-behind.ensures.seen
+    c.see_behind-behind.ensures.behind)
 
 pub returns-in_err-number-clause-number : goal.returns-in_err-number-clause-number
 returns-in_err-number-clause-number c = λ base in_step opened.

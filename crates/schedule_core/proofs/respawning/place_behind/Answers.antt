@@ -5,7 +5,7 @@ use Rattle.step_table.specs.PlacingSteps.{MayPlaceNext, PlacesNext}
 use Rattle.step_table.specs.RecordHands.{MayLessen}
 use Rattle.step_table.specs.RecordSteps.{Refers}
 use Rattle.wait_lists.specs.Joining.{MayJoin}
-use Rattle.schedule_core.specs.Behinds.{JoinsBehind}
+use Rattle.schedule_core.specs.Making.{JoinsBehind}
 use Rattle.schedule_core.specs.FrameWords.{WritesFrame}
 use Rattle.schedule_core.proofs.NextBehindFacts.{may-join, may-drop, placed-behind}
 use Rattle.schedule_core.proofs.NextPlaceFacts.{may-referred, may-next}
@@ -28,9 +28,8 @@ join-entry-requires-clause-may c =
     let wrote = subst (λ (m : ℕ). WritesFrame m items cloned w) c.unit-unit.ensures c.write_frame.ensures.written in
     let x = view c.wait_again-waiter.new.pass in
     let places = subst (λ (ws : List ℕ). PlacesNext g true c.args.started n ws c.write_frame.new.pass c.wait_again-waiter.new.pass) c.as_slice.ensures.value c.wait_again-waiter.ensures.view in
-    subst (λ (m : ℕ). MayJoin g.plan m c.wait_again-waiter.result.unit x) (sym refers.unit_is)
-    (subst (λ (m : ℕ). MayJoin g.plan b m x) (sym c.wait_again-waiter.ensures.waiter)
-    (may-join g u n b t refers.found items v cloned w may refers.view_is wrote places.found x places.view_is c.requires.may.predecessor.0 c.requires.may.predecessor.1))
+    subst (λ (m : ℕ). MayJoin g.plan b m x) (sym c.wait_again-waiter.ensures.waiter)
+    (may-join g u n b t refers.found items v cloned w may refers.view_is wrote places.found x places.view_is c.requires.may.predecessor.0 c.requires.may.predecessor.1)
 
 pub drop_future-requires-clause-may : goal.drop_future-requires-clause-may
 drop_future-requires-clause-may c =
@@ -41,7 +40,7 @@ drop_future-requires-clause-may c =
     let x = view c.wait_again-waiter.new.pass in
     let places = subst (λ (ws : List ℕ). PlacesNext g true c.args.started n ws c.write_frame.new.pass c.wait_again-waiter.new.pass) c.as_slice.ensures.value c.wait_again-waiter.ensures.view in
     let y = view c.join-entry.new.pass in
-    let joined = subst (λ (m : ℕ). JoinsBehind g u m x c.join-entry.result y) refers.unit_is (subst (λ (m : ℕ). JoinsBehind g m c.clone_future-kept.result.unit x c.join-entry.result y) c.wait_again-waiter.ensures.waiter c.join-entry.ensures.joined) in
+    let joined = subst (λ (m : ℕ). JoinsBehind g m c.args.behind x c.join-entry.result y) c.wait_again-waiter.ensures.waiter c.join-entry.ensures.joined in
     subst (λ (m : ℕ). MayLessen g m y) (sym refers.unit_is)
     (may-drop g u n b t refers.found items v cloned w may refers.view_is wrote places.found x places.view_is c.join-entry.result y joined c.requires.may.predecessor.0)
 
@@ -54,6 +53,6 @@ returns-clause-placed c =
     let x = view c.wait_again-waiter.new.pass in
     let places = subst (λ (ws : List ℕ). PlacesNext g true c.args.started n ws c.write_frame.new.pass c.wait_again-waiter.new.pass) c.as_slice.ensures.value c.wait_again-waiter.ensures.view in
     let y = view c.join-entry.new.pass in
-    let joined = subst (λ (m : ℕ). JoinsBehind g u m x c.join-entry.result y) refers.unit_is (subst (λ (m : ℕ). JoinsBehind g m c.clone_future-kept.result.unit x c.join-entry.result y) c.wait_again-waiter.ensures.waiter c.join-entry.ensures.joined) in
+    let joined = subst (λ (m : ℕ). JoinsBehind g m c.args.behind x c.join-entry.result y) c.wait_again-waiter.ensures.waiter c.join-entry.ensures.joined in
     let gives = subst (λ (m : ℕ). GivesBack m y (view c.drop_future.new.pass)) refers.unit_is c.drop_future.ensures.hand in
     placed-behind g u n b t refers.found items v cloned w may refers.view_is wrote places.found x places.view_is c.join-entry.result y joined (view c.drop_future.new.pass) gives c.args.priority t

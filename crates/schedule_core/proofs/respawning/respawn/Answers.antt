@@ -1,14 +1,16 @@
 use Rattle.std.proofs.Common.{◌∙◌, ◌<◌, ◌^◌, ℕ, Option, sym, ap, subst}
 use Rattle.std.specs.Prelude.{IfSome}
+use Rattle.task_syntax.specs.Form.{IsWellFormed}
 use Rattle.task_syntax.specs.declared.program.Program.{Program}
 use Rattle.frame_code.specs.Words.{body_of}
 use Rattle.table_core.specs.declared.view.View.{View}
 use Rattle.step_table.specs.Passes.{view}
 use Rattle.step_table.specs.RecordHands.{HasFuture}
-use Rattle.schedule_core.specs.NextNumbers.{HasNumber}
-use Rattle.schedule_core.specs.Respawning.{unit_next, Respawns}
+use Rattle.schedule_core.specs.NextNumbers.{HasNumber, IsNextUnit}
+use Rattle.schedule_core.specs.Respawning.{unit_next, MayName, Respawns}
 use Rattle.schedule_core.proofs.NextNumberFacts.{may-see, load-met}
-use Rattle.schedule_core.proofs.RespawnFacts.{asks-single, has-wanted, small-wanted, opened-few, met-in_step}
+use Rattle.schedule_core.proofs.RespawnFacts.{asks-next, has-wanted, small-wanted, opened-few, met-in_step}
+use Rattle.schedule_core.proofs.SpawnRequests.{asks-name}
 use Rattle.schedule_core.proofs.respawning.respawn.Goals as goal
 
 pub is_open-open-requires : goal.is_open-open-requires
@@ -19,6 +21,12 @@ returns-then-not-open-clause-respawned c =
     let g = c.args.shared.now.setup in let x = c.args.running in let items = x.frame.items in let request = c.args.request.now in let v = view c.args.pass.now in let may = c.requires.may in
     subst (λ r. Respawns g x request v r (view c.is_open-open.new.pass)) (sym c.refused.ensures)
     (met-in_step g x v (view c.is_open-open.new.pass) may.in_step (load-met g x.task c.args.pass.now c.is_open-open.new.pass c.if-not-open.ensures.drawn))
+
+pub unit_of-unit-requires-clause-names : goal.unit_of-unit-requires-clause-names
+unit_of-unit-requires-clause-names c =
+    let g = c.args.shared.now.setup in let items = c.args.running.frame.items in let request = c.args.request.now in
+    subst (λ (q : Program). MayName q request.behind (body_of q items)) (sym c.requires.code)
+    (asks-name g.checked g.columns request (body_of g.checked items) (subst IsWellFormed c.requires.code c.program-program.ensures.formed) c.requires.may.asks)
 
 pub unit_of-unit-requires-clause-small : goal.unit_of-unit-requires-clause-small
 unit_of-unit-requires-clause-small c =
@@ -36,7 +44,7 @@ number_next-requires-clause-may c =
     record {
       base = v;
       in_step = may.in_step;
-      single = asks-single g.checked g.columns request (body_of g.checked items) may.asks;
+      next = subst (λ (o : Option ℕ). IsNextUnit o (body_of g.checked items)) (sym unit) (asks-next g.checked g.columns request (body_of g.checked items) may.asks);
       opened = opened;
       has = subst (λ (o : Option ℕ). IfSome o (λ u. HasFuture g.plan u w)) (sym unit) has;
     }

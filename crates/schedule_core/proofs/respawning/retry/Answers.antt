@@ -3,9 +3,9 @@ use Rattle.step_table.specs.Passes.{view}
 use Rattle.schedule_core.specs.NextNumbers.{HasNumber}
 use Rattle.schedule_core.specs.Respawning.{Retries}
 use Rattle.frame_code.specs.Words.{body_of}
-use Rattle.schedule_core.specs.declared.behinds.Behind.{Behind}
+use Rattle.schedule_core.specs.declared.making.Behind.{Behind}
 use Rattle.schedule_core.proofs.NextNumberFacts.{may-see, load-met}
-use Rattle.schedule_core.proofs.RespawnFacts.{null-single, met-in_step, behind-none}
+use Rattle.schedule_core.proofs.RespawnFacts.{null-next, met-in_step, behind-none}
 use Rattle.schedule_core.proofs.respawning.retry.Goals as goal
 
 pub is_open-open-requires : goal.is_open-open-requires
@@ -20,7 +20,7 @@ returns-then-not-open-clause-retried c =
 pub number_next-requires-clause-may : goal.number_next-requires-clause-may
 number_next-requires-clause-may c =
     let g = c.args.shared.now.setup in let x = c.args.running in let v = view c.args.pass.now in let may = c.requires.may in
-    record { base = v; in_step = may.in_step; single = null-single g.checked g.columns (body_of g.checked x.frame.items) may.asks; opened = c.if-not-open.ensures.drawn; has = tt }
+    record { base = v; in_step = may.in_step; next = null-next g.checked g.columns (body_of g.checked x.frame.items) may.asks; opened = c.if-not-open.ensures.drawn; has = tt }
 
 pub stay-requires-clause-may : goal.stay-requires-clause-may
 stay-requires-clause-may c =

@@ -15,7 +15,7 @@ place_ready-entry-requires-clause-may c =
     let g = c.args.shared.now.setup in let x = c.args.running in let p = g.checked in let items = x.frame.items in let n = c.args.number in let v = view c.args.pass.now in
     let in_step = c.requires.may.may.in_step in
     let is_next = next-stays p (body_at p (slice_index in_step.run.words)) (body_of p items) in_step.same in_step.way (null-single p g.columns (body_of p items) c.requires.may.may.asks) in
-    (may-place g x None n None c.requires.may.base v in_step c.requires.may.has items [] in_step.frame is_next (λ w. omega arith)).may
+    (may-place g x None n None c.requires.may.base v in_step c.requires.may.has items [] in_step.frame is_next in_step.names (λ w. omega arith)).may
 
 pub overflow_sub-held : goal.overflow_sub-held
 overflow_sub-held c =
@@ -23,7 +23,7 @@ overflow_sub-held c =
     let in_step = c.requires.may.may.in_step in
     let is_next = next-stays p (body_at p (slice_index in_step.run.words)) (body_of p items) in_step.same in_step.way (null-single p g.columns (body_of p items) c.requires.may.may.asks) in
     let z = view c.place_ready-entry.new.pass in
-    let long = left-long g x None n None c.requires.may.base v in_step c.requires.may.has items [] in_step.frame is_next (λ w. omega arith) Low (Some c.place_ready-entry.result) z c.place_ready-entry.ensures.placed z (drops-none z) in
+    let long = left-long g x None n None c.requires.may.base v in_step c.requires.may.has items [] in_step.frame is_next in_step.names (λ w. omega arith) Low (Some c.place_ready-entry.result) z c.place_ready-entry.ensures.placed z (drops-none z) in
     let count = c.count_named-named.ensures ∙ ap length c.naming_words.ensures ∙ ap (λ (q : Program). length (named_in q items)) c.requires.code in
     omega (arith, long, count, c.args.pass.now.counts, c.held-held.ensures)
 
@@ -33,7 +33,7 @@ keep_count-requires c =
     let in_step = c.requires.may.may.in_step in
     let is_next = next-stays p (body_at p (slice_index in_step.run.words)) (body_of p items) in_step.same in_step.way (null-single p g.columns (body_of p items) c.requires.may.may.asks) in
     let z = view c.place_ready-entry.new.pass in
-    let long = left-long g x None n None c.requires.may.base v in_step c.requires.may.has items [] in_step.frame is_next (λ w. omega arith) Low (Some c.place_ready-entry.result) z c.place_ready-entry.ensures.placed z (drops-none z) in
+    let long = left-long g x None n None c.requires.may.base v in_step c.requires.may.has items [] in_step.frame is_next in_step.names (λ w. omega arith) Low (Some c.place_ready-entry.result) z c.place_ready-entry.ensures.placed z (drops-none z) in
     let count = c.count_named-named.ensures ∙ ap length c.naming_words.ensures ∙ ap (λ (q : Program). length (named_in q items)) c.requires.code in
     omega (arith, long, count, c.args.pass.now.counts, c.held-held.ensures)
 
@@ -44,4 +44,4 @@ returns-clause-stays c = λ base may has.
     let is_next = next-stays p (body_at p (slice_index in_step.run.words)) (body_of p items) in_step.same in_step.way (null-single p g.columns (body_of p items) may.asks) in
     let z = view c.place_ready-entry.new.pass in
     subst (λ (w : View). HasRespawned g x None Low base (Some c.place_ready-entry.result) w) (sym c.keep_count.ensures.view)
-    (gone-on g x None n None base v in_step has items [] in_step.frame is_next (λ w. omega arith) Low (Some c.place_ready-entry.result) z c.place_ready-entry.ensures.placed z (drops-none z))
+    (gone-on g x None n None base v in_step has items [] in_step.frame is_next in_step.names (λ w. omega arith) Low (Some c.place_ready-entry.result) z c.place_ready-entry.ensures.placed z (drops-none z))

@@ -4,10 +4,15 @@ use Rattle.memory_pool.specs.Answers.{Gives}
 use Rattle.step_table.specs.Passes.{view, block_of}
 use Rattle.step_table.specs.declared.pass.Pass.{Pass}
 use Rattle.schedule_core.specs.Runs.{IsInStep}
-use Rattle.schedule_core.specs.Spawning.{kind_class}
+use Rattle.schedule_core.specs.NewTasks.{kind_class}
 use Rattle.schedule_core.proofs.SpawnBlocks.{refused-in-step, answered-in-step}
+use Rattle.schedule_core.proofs.SpawnRequests.{spawnable-in}
 use Rattle.schedule_core.proofs.spawning.spawn.Goals.{in-Null, in-Block}
 use Rattle.schedule_core.proofs.spawning.spawn.Goals as goal
+
+pub class_of-class-requires : goal.class_of-class-requires
+class_of-class-requires g c =
+    (spawnable-in c.args.shared.now.setup c.args.running.now c.args.request.now (view c.args.pass.now) c.args.code.now c.requires.code c.program-checked.ensures.formed c.program-checked.ensures.valid c.requires.may).kind_fits
 
 pub returns-clause-in_step : goal.returns-clause-in_step
 returns-clause-in_step g c =

@@ -1,5 +1,5 @@
-use Rattle.schedule_core.specs.Spawning.{asking_of}
+use Rattle.schedule_core.specs.NewTasks.{asking_of}
 use Rattle.schedule_core.proofs.spawning.spawn_block.Given as goal
 
-abbrev pub ghost-spawn_in : goal.ghost-spawn_in
-ghost-spawn_in a = asking_of a.running.now
+abbrev pub ghost-make_in_block : goal.ghost-make_in_block
+ghost-make_in_block a = asking_of a.running.now

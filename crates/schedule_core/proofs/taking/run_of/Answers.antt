@@ -82,7 +82,7 @@ returns-clause-run c before t =
     let g = c.args.shared.now.setup in let v = view c.args.pass.now in let one = view c.read_after-after.new.pass in let two = view c.read_task-task.new.pass in let three = view c.read_frame-frame.new.pass in
     let is = front-read g c.args.code.now c.args.started before v two c.unit.result c.read_frame-frame.result.items t c.requires.code c.unit.ensures
     (ap (λ (w : View). w.known) c.read_task-task.ensures.task.view_is ∙ ap (λ (w : View). w.known) c.read_after-after.ensures.after.view_is) c.read_frame-frame.ensures.frame in
-    takes-run g c.args.started before v (view c.keep_count.new.self) t _
+    takes-run g c.args.started before v (view c.keep_count.new.self) t c.args.priority _
     (c.keep_count.ensures.view ∙ c.read_frame-frame.ensures.seen.view_is
     ∙ (λ k. record (c.read_task-task.ensures.task.view_is k) { seen = three.seen })
     ∙ (λ k. record (c.read_after-after.ensures.after.view_is k) { seen = three.seen })
@@ -96,5 +96,6 @@ returns-clause-run c before t =
     refl
     (c.read_task-task.ensures.task.task_is _ (run-sees g.plan c.args.started.unit v one _ (took-run g c.args.started before v t) (ap (λ (w : View). w.runs) c.read_after-after.ensures.after.view_is)))
     (c.read_after-after.ensures.after.after_is t.call (took-accepted g c.args.started before v t))
+    refl
     refl
     is

@@ -36,7 +36,7 @@ returns-in-Ok-clause-swept c =
     let g = c.args.shared.now.setup in let old = c.args.pass.now in let now = c.units.pass in let new = c.see_state-word.new.pass in let so = c.units.invariant in let sees = c.see_state-word.ensures.view in (
       c.entry_of-entry.result,
       saw-ready c.units.unit old now new (view c.take_entry.new.pass) c.see_state-word.result c.entry_of-entry.result so sees c.in-Ready.is c.see_state-word.ensures.fits c.entry_of-entry.ensures c.in-Ok.ensures.taken.seen,
-      run-since g c.entry_of-entry.result.unit c.entry_of-entry.result.number (view old) (view new) (view c.take_entry.new.pass) c.in-Ok.running (sweep-view c.units.unit old now new c.see_state-word.result so sees)
+      run-since g c.entry_of-entry.result.unit c.entry_of-entry.result.number c.entry_of-entry.result.priority (view old) (view new) (view c.take_entry.new.pass) c.in-Ok.running (sweep-view c.units.unit old now new c.see_state-word.result so sees)
           (sweep-sights c.units.unit old now new c.see_state-word.result so sees)
           (sweep-grows c.units.unit old now new c.see_state-word.result so sees) c.in-Ok.ensures.taken,
     )
