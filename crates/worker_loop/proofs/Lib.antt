@@ -1,0 +1,8 @@
+mod HandFacts
+mod CallFacts
+mod ChainFacts
+mod CountFacts
+mod AnswerFacts
+mod PlacedFacts
+mod ActFacts
+mod TurnFacts
