@@ -1,7 +1,5 @@
 -- What the rows of a text spell is read from it.
-use Rattle.task_lines.proofs.Vocabulary.{◌≡◌, ℕ, Bool, false, cond, List, [], ◌∷◌, length, Result, Ok, Err, refl, sym, ◌∙◌, ap, subst, codes, same_bytes, NoHeader, NoEnd, Fault, fault_at, Row, lines_of, without_mark, rows_of, Scan, start_of, Parser, ◌>>◌, pure, need, take_word, check_text, whole, Answers, pure-answers, need-answers, taken-answers, seen-is, whole-answers, What, Item, Place, Outside, Head, Ended, Scope, first_scope, after, header_line, read_line, is_open_state, is_cut_short, line_of, items_from, rows_behind_header, items_of, Spells, MayBegin, MayStand, RowsSpellFrom, RowsSpell}
-use Rattle.task_text.specs.Fault.{◌>>=◌}
-use Rattle.task_lines.specs.declared.item.What.TheVariants as what
+use Rattle.task_lines.proofs.Vocabulary.{◌≡◌, ℕ, Bool, false, cond, List, [], ◌∷◌, length, Result, Ok, Err, refl, sym, ◌∙◌, ap, subst, codes, NoEnd, Fault, fault_at, Row, lines_of, without_mark, rows_of, Scan, start_of, check_text, whole, Answers, whole-answers, What, Item, Place, Outside, Head, Ended, Scope, first_scope, after, header_line, read_line, is_open_state, is_cut_short, line_of, items_from, rows_behind_header, items_of, Spells, MayBegin, MayStand, RowsSpellFrom, RowsSpell, tested, then-answers, tested-answers, header_word, ◌>>=◌}
 use Rattle.task_lines.proofs.AcceptedText.{text-checked, spelled-text}
 use Rattle.task_lines.proofs.AcceptedLines.{line-answers}
 
@@ -16,8 +14,8 @@ no-open-state place h = absurd h
 
 -- a line that may stand cuts nothing short
 not-cut : (scope : Scope) (w : What) → MayStand scope w → is_cut_short scope.place w ≡ false
-not-cut scope (what.State name holds settled) may = no-open-state scope.place may.0
-not-cut scope what.End may = ap (λ p. is_cut_short p what.End) may
+not-cut scope (What.State name holds settled) may = no-open-state scope.place may.0
+not-cut scope What.End may = ap (λ p. is_cut_short p What.End) may
 not-cut scope w may = refl
 
 pub row-accepted : (scope : Scope) (row : Row) (w : What) → Spells row.words w → MayStand scope w → line_of scope row ≡ Ok w
@@ -53,11 +51,9 @@ rows-accepted last (row ∷ rows) scope (item ∷ items) h =
 header-answers : (s : Scan) → s.left ≡ codes "ktask" ∷ codes "1" ∷ [] → Answers header_line s tt []
 unfolding header_line
 header-answers s e =
-    let second : Parser (Unit {0}) = need (same_bytes (codes "1")) NoHeader >> (take_word >> pure tt) in
-    need-answers (same_bytes (codes "ktask")) NoHeader (take_word >> second) s tt [] (ap (λ w. same_bytes (codes "ktask") w) (seen-is s (codes "ktask") (codes "1" ∷ []) e))
-    (taken-answers second s (codes "ktask") (codes "1" ∷ []) [] tt e
-    (λ t e. need-answers (same_bytes (codes "1")) NoHeader (take_word >> pure tt) t tt [] (ap (λ w. same_bytes (codes "1") w) (seen-is t (codes "1") [] e))
-    (taken-answers (pure tt) t (codes "1") [] [] tt e (λ u e. pure-answers u tt [] e))))
+    then-answers (tested (header_word (codes "ktask")) (λ _. tt {0})) (λ _. tested (header_word (codes "1")) (λ _. tt {0})) s tt tt (codes "1" ∷ []) []
+    (tested-answers (header_word (codes "ktask")) (λ _. tt {0}) s (codes "ktask") (codes "1" ∷ []) (refl, tt) e)
+    (λ t e. tested-answers (header_word (codes "1")) (λ _. tt {0}) t (codes "1") [] (refl, tt) e)
 
 pub header-accepted : (header : Row) (rows : List Row) → header.words ≡ codes "ktask" ∷ codes "1" ∷ [] → rows_behind_header (header ∷ rows) ≡ Ok rows
 unfolding rows_behind_header

@@ -1,13 +1,13 @@
 -- What may stand at the end of a line is read from the words that spell it.
-use Rattle.task_lines.proofs.Vocabulary.{◌≡◌, ℕ, Bool, true, false, cond, Option, Some, None, List, [], ◌∷◌, ◌++◌, refl, sym, ◌∙◌, ap, subst, inl, inr, codes, same_bytes, Relation, Less, Priority, High, Regular, Low, Word, is_missing, is_future, Scan, first_of, seen, ◌<$>◌, pure, fixed, read_future, eat, Answers, then-answers, pure-answers, seen-is, seen-first, moved-is, fixed-answers, future-answers, eat-answers, eat-nothing, relation_of, priority_of, read_behind, priority_by, read_priority, last_priority_by, read_last_priority, read_retry, relation_by, read_relation, is_argument, is_root_argument}
+use Rattle.task_lines.proofs.Vocabulary.{◌≡◌, ℕ, Bool, true, false, cond, Option, Some, None, List, [], ◌∷◌, ◌++◌, refl, sym, ◌∙◌, ap, subst, inl, inr, codes, same_bytes, Relation, Less, Priority, High, Regular, Low, Word, is_missing, is_future, Scan, first_of, seen, ◌<$>◌, pure, fixed, read_future, eat, Answers, then-answers, pure-answers, seen-is, seen-first, moved-is, fixed-answers, word-answers, a_future, drop, eat-answers, eat-nothing, relation_of, priority_of, read_behind, priority_by, read_priority, last_priority_by, read_last_priority, read_retry, relation_by, read_relation, is_argument, is_root_argument, SpellsFuture, relation_word, priority_word, SpellsBehind, SpellsPriority, retry_words}
 use Rattle.task_text.specs.Scan.{◌>>=◌}
-use Rattle.task_lines.specs.Grammar.{relation_word, priority_word, SpellsBehind, SpellsPriority, retry_words}
+use Rattle.task_lines.proofs.Words.{future-means}
 
 -- ---- what may stand at the end of a line
 
 pub behind-answers : (words : List Word) (behind : Option (List ℕ)) → SpellsBehind words behind → (s : Scan) (rest : List Word) → same_bytes (codes "behind") (first_of rest) ≡ false
     → s.left ≡ words ++ rest → Answers read_behind s behind rest
-unfolding read_behind
+unfolding read_behind read_future
 behind-answers words None spells s rest stop e =
     let l : s.left ≡ rest = e ∙ ap (λ ws. ws ++ rest) spells.0 in
     then-answers (eat (codes "behind")) (λ found. cond found (Some <$> read_future) (pure None)) s false None rest rest
@@ -16,7 +16,7 @@ behind-answers words (Some name) spells s rest stop e =
     let l : s.left ≡ codes "behind" ∷ (64 ∷ name) ∷ rest = e ∙ ap (λ ws. ws ++ rest) spells.0 in
     then-answers (eat (codes "behind")) (λ found. cond found (Some <$> read_future) (pure None)) s true (Some name) ((64 ∷ name) ∷ rest) rest
     (eat-answers (codes "behind") s ((64 ∷ name) ∷ rest) l)
-    (λ t l. then-answers read_future (λ n. pure (Some n)) t name (Some name) rest rest (future-answers name spells.1 t rest l) (λ u m. pure-answers u (Some name) rest m))
+    (λ t l. then-answers read_future (λ n. pure (Some n)) t name (Some name) rest rest (word-answers SpellsFuture a_future (drop 1) future-means (64 ∷ name) name (refl, spells.1) t rest l) (λ u m. pure-answers u (Some name) rest m))
 
 priority-of : (priority : Priority) → priority_of (priority_word priority) ≡ Some priority
 priority-of High = refl

@@ -1,13 +1,7 @@
 -- The words that spell lines have only bytes that may stand outside comments.
-use Rattle.task_lines.proofs.Vocabulary.{◌≡◌, ℕ, ◌+◌, ◌≤◌, Bool, true, false, not, ◌&&◌, ◌||◌, cond, nat_eq, nat_le, Option, Some, None, List, [], ◌∷◌, ◌++◌, length, Result, Ok, Err, refl, sym, ◌∙◌, ap, subst, inl, inr, arith, codes, nat_lt, ◌^◌, list_all, digits_value, leb-true, le-leb, eqb-true, is_between, is_letter, is_digit, is_name_byte, is_reserved, begins_with_letter, IsName, Sort, Variable, MathOp, Relation, Less, Priority, High, both, either, NotText, Fault, fault_at, Word, is_text, check_words, Term, Passed, Set, Math, RootTerm, What}
-use Rattle.task_syntax.specs.declared.program.Sort.TheVariants as sort
-use Rattle.task_syntax.specs.declared.instr.MathOp.TheVariants as op
-use Rattle.task_lines.specs.declared.step.Term.TheVariants as term
-use Rattle.task_lines.specs.declared.step.Passed.TheVariants as passed
-use Rattle.task_lines.specs.declared.item.RootTerm.TheVariants as root_term
-use Rattle.task_lines.specs.declared.item.What.TheVariants as what
-use Rattle.task_lines.specs.Table.{Part, GotoWord, AName, ANewName, ATarget, ATerm, ARelation, AFuture, KindVariables, MoreVariables, Arguments, RootArguments, Members, HeldFutures, SettledFutures, Predecessor, APriority, LastPriority, ARetry, Of, Values, Choice, Choices, part_words, words_of, entry}
-use Rattle.task_lines.specs.Grammar.{SpellsName, SpellsFuture, SpellsNumber, SpellsTerm, SpellsPassed, SpellsRootTerm, SpellsVariable, operation_word, relation_word, priority_word, EachSpells, SpellsFutures, SpellsBehind, SpellsPriority, retry_words, Spells}
+use Rattle.task_lines.proofs.Vocabulary.{◌≡◌, ℕ, ◌+◌, ◌≤◌, Bool, true, false, not, ◌&&◌, ◌||◌, cond, nat_eq, nat_le, Option, Some, None, List, [], ◌∷◌, ◌++◌, length, Result, Ok, Err, refl, sym, ◌∙◌, ap, subst, inl, inr, arith, codes, nat_lt, ◌^◌, list_all, digits_value, leb-true, le-leb, eqb-true, is_between, is_letter, is_digit, is_name_byte, is_reserved, begins_with_letter, IsName, Sort, Variable, MathOp, Relation, Less, Priority, High, both, either, NotText, Fault, fault_at, Word, is_text, check_words, Term, Passed, Set, Math, RootTerm, What, Part, GotoWord, AName, ANewName, ATarget, ATerm, ARelation, AFuture, KindVariables, MoreVariables, Arguments, RootArguments, Members, HeldFutures, SettledFutures, Predecessor, APriority, LastPriority, ARetry, Of, Values, Choice, Choices, part_words, entry, SpellsFuture, SpellsNumber, operation_word, relation_word, priority_word, EachSpells, SpellsBehind, SpellsPriority, retry_words, Spells}
+use Rattle.task_lines.specs.Table.{words_of}
+use Rattle.task_lines.specs.Grammar.{SpellsName, SpellsTerm, SpellsPassed, SpellsRootTerm, SpellsVariable, SpellsFutures}
 
 -- each byte of the words may stand outside comments
 abbrev pub AreText : List Word → Type 0
@@ -71,26 +65,26 @@ number-text word n s = all-pass is_digit (is_between 33 126) digit-text word
     (both (is_between 1 20 (length word) && list_all is_digit word) (nat_lt (digits_value 10 word) (2 ^ 64)) s.0).0).1
 
 term-text : (word : Word) (t : Term) → SpellsTerm word t → is_text word ≡ true
-term-text word (term.Literal n) s = number-text word n s
-term-text word (term.Variable name) s = spelled-name-text word name s
+term-text word (Term.Literal n) s = number-text word n s
+term-text word (Term.Variable name) s = spelled-name-text word name s
 
 passed-text : (word : Word) (a : Passed) → SpellsPassed word a → is_text word ≡ true
-passed-text word (passed.Number t) s = term-text word t s
-passed-text word (passed.Future name) s = future-text word name s
+passed-text word (Passed.Number t) s = term-text word t s
+passed-text word (Passed.Future name) s = future-text word name s
 
 root-term-text : (word : Word) (a : RootTerm) → SpellsRootTerm word a → is_text word ≡ true
-root-term-text word (root_term.Number n) s = number-text word n s
-root-term-text word (root_term.Root name) s = future-text word name s
+root-term-text word (RootTerm.Number n) s = number-text word n s
+root-term-text word (RootTerm.Root name) s = future-text word name s
 
 by-sort-text : (word : Word) (name : List ℕ) (s : Sort) → SpellsVariable word (record { name = name; sort = s }) → is_text word ≡ true
-by-sort-text word name sort.Number h = spelled-name-text word name h
-by-sort-text word name sort.Future h = future-text word name h
+by-sort-text word name Sort.Number h = spelled-name-text word name h
+by-sort-text word name Sort.Future h = future-text word name h
 
 variable-text : (word : Word) (v : Variable) → SpellsVariable word v → is_text word ≡ true
 variable-text word v h = by-sort-text word v.name v.sort h
 
 operation-text : (operation : MathOp) → is_text (operation_word operation) ≡ true
-operation-text op.Add = refl
+operation-text MathOp.Add = refl
 operation-text _ = refl
 
 relation-text : (relation : Relation) → is_text (relation_word relation) ≡ true
@@ -155,10 +149,10 @@ parts-text [] vs c = tt
 parts-text (part ∷ ps) vs c = append-text (part_words part vs.0 c.0) (words_of ps vs.1 c.1 []) (part-text part vs.0 c.0) (parts-text ps vs.1 c.1)
 
 first-text : (w : What) → is_text (entry w).word ≡ true
-first-text (what.Step (Math operation to left right)) = operation-text operation
-first-text (what.Kind name arguments) = refl
-first-text (what.Step (Set to value)) = refl
-first-text (what.Step _) = refl
+first-text (What.Step (Math operation to left right)) = operation-text operation
+first-text (What.Kind name arguments) = refl
+first-text (What.Step (Set to value)) = refl
+first-text (What.Step _) = refl
 first-text _ = refl
 
 pub spelled-text : (words : List Word) (w : What) → Spells words w → AreText words

@@ -1,9 +1,5 @@
 -- One turn over the rows of a text: another item, a fault, and the end.
-use Rattle.task_lines.proofs.Vocabulary.{◌≡◌, ◌≢◌, ℕ, ◌+◌, ◌≤◌, List, [], ◌∷◌, ◌++◌, length, drop, Some, None, Result, Ok, Err, refl, sym, ap, append-nil, arith, Fault, NoEnd, TextError, fault_at, Gives, Row, Scan, start_of, first_start, What, Item, Place, Outside, Head, Code, Jumped, Ended, Scope, after, line_of, items_from}
-use Rattle.std.proofs.Common.{append_assoc}
-use Rattle.task_text.specs.declared.fault.TextError.TheVariants as error
-use Rattle.task_text.specs.Fault.{◌>>=◌}
-use Rattle.task_lines.specs.declared.item.What.TheVariants as what
+use Rattle.task_lines.proofs.Vocabulary.{◌≡◌, ◌≢◌, ℕ, ◌+◌, ◌≤◌, List, [], ◌∷◌, ◌++◌, length, drop, Some, None, Result, Ok, Err, refl, sym, ap, append-nil, arith, Fault, NoEnd, TextError, fault_at, Gives, Row, Scan, start_of, first_start, What, Item, Place, Outside, Head, Code, Jumped, Ended, Scope, after, line_of, items_from, append_assoc, ◌>>=◌}
 
 -- the items that are read, behind those found before
 abbrev pub behind : List Item → Result (List Item) Fault → Result (List Item) Fault
@@ -51,8 +47,8 @@ row_fails last s (row ∷ rows) at found fault start read =
 pub row_fails_or : (last : ℕ) (s : Scope) (rows : List Row) (at : Scan) (found : List Item) (e : TextError)
     → Some at ≡ first_start rows → Gives {A = Item} {B = What} (λ item. item.what) (Err e) (line_of s (record { line = at.line; words = at.left }))
     → Gives {A = List Item} {B = List Item} (λ items. items) (Err e) (behind found (items_from last s rows))
-row_fails_or last s rows at found (error.Fault fault) start read = row_fails last s rows at found fault start read
-row_fails_or last s rows at found error.Memory start read = tt
+row_fails_or last s rows at found (TextError.Fault fault) start read = row_fails last s rows at found fault start read
+row_fails_or last s rows at found TextError.Memory start read = tt
 
 -- no row is left
 pub rows_end : (last : ℕ) (s : Scope) (rows : List Row) (found : List Item)
@@ -76,7 +72,7 @@ rows_stop last s [] found none inside = by s.place refl where
 
 -- the steps of a state are at most the lines read
 pub steps_counted : (s : Scope) (w : What) → (after s w).steps ≤ s.steps + 1
-steps_counted s (what.Kind name arguments) = omega arith
+steps_counted s (What.Kind name arguments) = omega arith
 steps_counted s _ = omega arith
 
 -- a row is taken

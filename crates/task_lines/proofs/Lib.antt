@@ -6,7 +6,7 @@ pub mod Parts
 pub mod Starts
 pub mod Items
 pub mod Spelled
-pub mod AcceptedParts
+pub mod Words
 pub mod AcceptedEnds
 pub mod AcceptedLines
 pub mod AcceptedText

@@ -1,10 +1,9 @@
 -- The lines are spelled by the words that their parsers take.
-use Rattle.task_lines.proofs.Vocabulary.{◌≡◌, ◌≢◌, ℕ, ◌<◌, ◌≤◌, Bool, true, false, cond, Option, Some, None, List, [], ◌∷◌, ◌++◌, length, Ok, refl, sym, ◌∙◌, ap, subst, arith, append-nil, codes, AllDiffer, differ-nil, Word, TwiceNamed, BackLabel, is_missing, is_present, is_future, Scan, seen, moved, Outcome, Parser, ◌>>◌, pure, take_word, fixed, eat, one_or_more, same-ok, parts, roomy, fixed-taken, name-taken, new-name-taken, read-future-taken, each-taken, one-or-more-taken, Eaten, eaten, left, eat-taken, What, End, Keyword, Place, Outside, Head, Code, Jumped, Ended, Scope, keywords, keyword_word, keyword_of, may_open, allowed, opening, read_variable, read_other_future, read_holds, read_settled, is_argument, read_argument, is_root_argument, read_root_argument, read_member, is_open_state, is_cut_short, Spells, IsInState, MayBegin, MayStand}
-use Rattle.std.proofs.lemmas.List.{append_assoc}
-use Rattle.task_lines.specs.declared.keyword.Keyword.TheVariants as k
-use Rattle.task_lines.specs.Spelling.{SpellsFuture, SpellsFutures, SpellsPassed, SpellsRootTerm, SpellsVariable, EachSpells}
-use Rattle.task_lines.specs.Table.{Part, GotoWord, AName, ANewName, ATarget, ATerm, ARelation, AFuture, KindVariables, MoreVariables, Arguments, RootArguments, Members, HeldFutures, SettledFutures, Predecessor, APriority, LastPriority, ARetry, Of, Values, names_of, read_part, read_parts, Choice, Choices, part_words, words_of, Keeps, KeepAll, parts_of, line_of_parts, counted, begun, keyword_line, line_by, read_line}
-use Rattle.task_lines.proofs.SpelledParts.{some-same, looked-up, word-first, list-taken, new-name, AreNew, term-taken, variable-taken, other-future-taken, argument-taken, root-argument-taken, member-taken, behind-taken, priority-taken, last-priority-taken, retry-taken, relation-taken}
+use Rattle.task_lines.proofs.Vocabulary.{◌≡◌, ◌≢◌, ℕ, ◌<◌, ◌≤◌, Bool, true, false, cond, Option, Some, None, List, [], ◌∷◌, ◌++◌, length, Ok, refl, sym, ◌∙◌, ap, subst, arith, append-nil, codes, AllDiffer, differ-nil, Word, TwiceNamed, BackLabel, is_missing, is_present, is_future, Scan, seen, moved, Outcome, Parser, ◌>>◌, pure, take_word, fixed, eat, one_or_more, same-ok, parts, roomy, fixed-taken, Eaten, eaten, left, eat-taken, What, End, Keyword, Place, Outside, Head, Code, Jumped, Ended, Scope, keywords, keyword_word, keyword_of, may_open, allowed, opening, read_variable, read_other_future, read_holds, read_settled, is_argument, read_argument, is_root_argument, read_root_argument, read_member, is_open_state, is_cut_short, Spells, IsInState, MayBegin, MayStand, drop, IsName, Cause, a_name, a_future, new_name, read_name, read_new_name, read_future, word-taken, items-taken, some-items-taken, an_operand, term_of, a_variable, variable_of, an_argument, passed_of, root_term_of, a_member, other_future, read_term, append_assoc, SpellsName, SpellsTerm, SpellsFutures, SpellsPassed, SpellsRootTerm, SpellsVariable, Part, GotoWord, AName, ANewName, ATarget, ATerm, ARelation, AFuture, KindVariables, MoreVariables, Arguments, RootArguments, Members, HeldFutures, SettledFutures, Predecessor, APriority, LastPriority, ARetry, Of, Values, names_of, read_part, read_parts, Choice, Choices, part_words, Keeps, KeepAll, parts_of, line_of_parts, counted, begun, keyword_line, line_by, read_line, IsNew}
+use Rattle.task_lines.specs.Spelling.{SpellsFuture, EachSpells}
+use Rattle.task_lines.specs.Table.{words_of}
+use Rattle.task_lines.proofs.Words.{some-same, AreNew, name-means, new-name-means, future-means, term-means, variable-means, other-future-means, argument-means, root-argument-means, member-means}
+use Rattle.task_lines.proofs.SpelledParts.{looked-up, word-first, behind-taken, priority-taken, last-priority-taken, retry-taken, relation-taken}
 
 -- ---- what opens a line
 
@@ -29,50 +28,35 @@ abbrev pub IsInside : Place → Type 0
 IsInside Outside = ⊥
 IsInside _ = Unit {0}
 
-opens-kind : (place : Place) → may_open place k.Kind ≡ true → place ≡ Outside
-opens-kind Outside m = refl
-opens-kind place m = cc
+-- where a line with this first word may stand
+abbrev Opened : Keyword → Place → Type 0
+Opened Keyword.Kind place = place ≡ Outside
+Opened Keyword.Root place = place ≡ Outside
+Opened Keyword.Var place = place ≡ Head
+Opened Keyword.State place = IsInside place
+Opened Keyword.End place = IsInside place
+Opened Keyword.Label place = IsInState place
+Opened _ place = place ≡ Code
 
-opens-root : (place : Place) → may_open place k.Root ≡ true → place ≡ Outside
-opens-root Outside m = refl
-opens-root place m = cc
-
-opens-var : (place : Place) → may_open place k.Var ≡ true → place ≡ Head
-opens-var Head m = refl
-opens-var place m = cc
-
-opens-state : (place : Place) → may_open place k.State ≡ true → IsInside place
-opens-state Outside m = cc
-opens-state place m = tt
-
-opens-end : (place : Place) → may_open place k.End ≡ true → IsInside place
-opens-end Outside m = cc
-opens-end place m = tt
-
-opens-label : (place : Place) → may_open place k.Label ≡ true → IsInState place
-opens-label Outside m = cc
-opens-label Head m = cc
-opens-label place m = tt
-
--- the keywords of the instructions that are no labels
-abbrev IsOfStep : Keyword → Type 0
-IsOfStep k.Kind = ⊥
-IsOfStep k.Var = ⊥
-IsOfStep k.State = ⊥
-IsOfStep k.End = ⊥
-IsOfStep k.Root = ⊥
-IsOfStep k.Label = ⊥
-IsOfStep _ = Unit {0}
-
-opens-step : (place : Place) (keyword : Keyword) → IsOfStep keyword → may_open place keyword ≡ true → place ≡ Code
-opens-step Code keyword i m = refl
-opens-step place k.Kind i m = absurd i
-opens-step place k.Var i m = absurd i
-opens-step place k.State i m = absurd i
-opens-step place k.End i m = absurd i
-opens-step place k.Root i m = absurd i
-opens-step place k.Label i m = absurd i
-opens-step place keyword i m = cc
+opened : (place : Place) (keyword : Keyword) → may_open place keyword ≡ true → Opened keyword place
+opened Outside Keyword.Kind m = refl
+opened Outside Keyword.Root m = refl
+opened Outside _ m = cc
+opened Head Keyword.Var m = refl
+opened Head Keyword.State m = tt
+opened Head Keyword.End m = tt
+opened Head _ m = cc
+opened Code Keyword.Kind m = cc
+opened Code Keyword.Var m = cc
+opened Code Keyword.Root m = cc
+opened Code Keyword.State m = tt
+opened Code Keyword.End m = tt
+opened Code Keyword.Label m = tt
+opened Code _ m = refl
+opened _ Keyword.State m = tt
+opened _ Keyword.End m = tt
+opened _ Keyword.Label m = tt
+opened _ _ m = cc
 
 may-begin : (place : Place) → IsInside place → is_open_state place ≡ false → MayBegin place
 may-begin Head inside cut = tt
@@ -105,9 +89,10 @@ spells-some word ws [] n h = absurd (n refl)
 spells-some word ws (name ∷ names) n h = (ws, refl, h)
 
 some-futures : (word : Word) (test : Word → Bool) (s t : Scan) (r : List (List ℕ) × Scan) → s.left ≡ word ∷ t.left → one_or_more test read_other_future t ≡ Ok r → TakesFutures word s r
+unfolding read_other_future
 some-futures word test s t r first e =
-    let found = one-or-more-taken SpellsFuture (λ found. AllDiffer found) test read_other_future other-future-taken t r differ-nil e in
-    let names = list-taken SpellsFuture (λ found. AllDiffer found) t r found.0 in
+    let found = some-items-taken SpellsFuture (λ found. AllDiffer found) test other_future (drop 1) (other-future-means (λ word. true)) t r differ-nil e in
+    let names = found.0 in
     record {
       words = word ∷ names.words;
       left = first ∙ ap (λ ws. word ∷ ws) names.left;
@@ -143,39 +128,44 @@ pub record TakesPart (scope : Scope) (part : Part) (s : Scan) (r : Of part × Sc
   pub left : s.left ≡ part_words part r.0 choice ++ r.1.left
   pub keeps : Keeps scope part r.0
 
+record TakesNewName (taken : List (List ℕ)) (s : Scan) (r : List ℕ × Scan) : Type 0 where
+  choice : IsName r.0
+  left : s.left ≡ r.0 ∷ r.1.left
+  keeps : IsNew r.0 taken
+
+new-name-taken : (cause : Cause) (taken : List (List ℕ)) (s : Scan) (r : List ℕ × Scan) → read_new_name cause taken s ≡ Ok r → TakesNewName taken s r
+unfolding read_new_name
+new-name-taken cause taken s r e = let t = word-taken (λ word name. SpellsName word name × IsNew name taken) (new_name cause taken) (λ w. w) (new-name-means cause taken) s r e in
+    record { choice = t.spells.0.1; left = t.left ∙ ap (λ w. w ∷ r.1.left) t.spells.0.0; keeps = t.spells.1 }
+
 part-taken : (scope : Scope) → AreNew 255 scope.variables → (part : Part) (s : Scan) (r : Of part × Scan) → read_part scope part s ≡ Ok r → TakesPart scope part s r
+unfolding read_name read_new_name read_future read_term read_variable read_argument read_root_argument read_member
 part-taken scope new GotoWord s r e = record { choice = tt; left = fixed-taken (codes "goto") refl s r e; keeps = tt }
-part-taken scope new AName s r e = let t = name-taken s r e in record { choice = t.name; left = t.left; keeps = tt }
+part-taken scope new AName s r e =
+    let t = word-taken SpellsName a_name (λ w. w) name-means s r e in record { choice = t.spells.1; left = t.left ∙ ap (λ w. w ∷ r.1.left) t.spells.0; keeps = tt }
 part-taken scope new (ANewName named) s r e =
-    let t = new-name-taken TwiceNamed (names_of scope named) s r e in
-    record { choice = t.0.name; left = t.0.left; keeps = new-name r.0 (names_of scope named) t.1 }
-part-taken scope new ATarget s r e =
-    let t = new-name-taken BackLabel scope.labels s r e in record { choice = t.0.name; left = t.0.left; keeps = new-name r.0 scope.labels t.1 }
-part-taken scope new ATerm s r e = let t = term-taken s r e in record { choice = (t.word, t.spells); left = t.left; keeps = tt }
+    let t = new-name-taken TwiceNamed (names_of scope named) s r e in record { choice = t.choice; left = t.left; keeps = t.keeps }
+part-taken scope new ATarget s r e = let t = new-name-taken BackLabel scope.labels s r e in record { choice = t.choice; left = t.left; keeps = t.keeps }
+part-taken scope new ATerm s r e = let t = word-taken SpellsTerm an_operand term_of term-means s r e in record { choice = (t.word, t.spells); left = t.left; keeps = tt }
 part-taken scope new ARelation s r e = record { choice = tt; left = relation-taken s r e; keeps = tt }
-part-taken scope new AFuture s r e = let t = read-future-taken s r e in record { choice = t.name; left = t.left; keeps = tt }
+part-taken scope new AFuture s r e =
+    let t = word-taken SpellsFuture a_future (drop 1) future-means s r e in record { choice = t.spells.1; left = t.left ∙ ap (λ w. w ∷ r.1.left) t.spells.0; keeps = tt }
 part-taken scope new KindVariables s r e =
-    let t = list-taken SpellsVariable (AreNew 16) s r
-    (each-taken SpellsVariable (AreNew 16) is_present (read_variable 16) (λ found t q h. variable-taken 16 [] found t q refl) [] s r (differ-nil, omega arith) e) in
+    let t = items-taken SpellsVariable (AreNew 16) is_present (a_variable 16) variable_of (variable-means 16 [] is_present) s r (differ-nil, omega arith) e in
     record { choice = (t.words, t.spell); left = t.left; keeps = t.holds }
 part-taken scope new MoreVariables s r e =
-    let all = λ (found : List _). AreNew 255 (scope.variables ++ found) in
-    let found = one-or-more-taken SpellsVariable all is_present (λ found. read_variable 255 (scope.variables ++ found)) (variable-taken 255 scope.variables) s r
+    let t = some-items-taken SpellsVariable (λ found. AreNew 255 (scope.variables ++ found)) is_present (λ found. a_variable 255 (scope.variables ++ found)) variable_of (variable-means 255 scope.variables (λ word. true)) s r
     (subst (AreNew 255) (sym (append-nil scope.variables)) new) e in
-    let t = list-taken SpellsVariable all s r found.0 in
-    record { choice = (t.words, found.1, t.spell); left = t.left; keeps = t.holds }
+    record { choice = (t.0.words, t.1, t.0.spell); left = t.0.left; keeps = t.0.holds }
 part-taken scope new Arguments s r e =
-    let t = list-taken SpellsPassed (λ found. length found ≤ 16) s r
-    (each-taken SpellsPassed (λ found. length found ≤ 16) is_argument read_argument argument-taken [] s r (omega arith) e) in
+    let t = items-taken SpellsPassed (λ found. length found ≤ 16) is_argument (λ found. an_argument (length found)) passed_of argument-means s r (omega arith) e in
     record { choice = (t.words, t.spell); left = t.left; keeps = t.holds }
 part-taken scope new RootArguments s r e =
-    let t = list-taken SpellsRootTerm (λ found. length found ≤ 16) s r
-    (each-taken SpellsRootTerm (λ found. length found ≤ 16) is_root_argument read_root_argument root-argument-taken [] s r (omega arith) e) in
+    let t = items-taken SpellsRootTerm (λ found. length found ≤ 16) is_root_argument (λ found. an_argument (length found)) root_term_of root-argument-means s r (omega arith) e in
     record { choice = (t.words, t.spell); left = t.left; keeps = t.holds }
 part-taken scope new Members s r e =
-    let found = one-or-more-taken SpellsFuture (λ found. length found ≤ 8) is_future read_member member-taken s r (omega arith) e in
-    let t = list-taken SpellsFuture (λ found. length found ≤ 8) s r found.0 in
-    record { choice = (t.words, found.1, t.spell); left = t.left; keeps = t.holds }
+    let t = some-items-taken SpellsFuture (λ found. length found ≤ 8) is_future (λ found. a_member (length found)) (drop 1) (member-means (λ word. true)) s r (omega arith) e in
+    record { choice = (t.0.words, t.1, t.0.spell); left = t.0.left; keeps = t.0.holds }
 part-taken scope new HeldFutures s r e = let t = holds-taken s r e in record { choice = (t.words, t.spells); left = t.left; keeps = t.differ }
 part-taken scope new SettledFutures s r e = let t = settled-taken s r e in record { choice = (t.words, t.spells); left = t.left; keeps = t.differ }
 part-taken scope new Predecessor s r e = let t = behind-taken s r e in record { choice = (t.words, t.spells); left = t.left; keeps = tt }
@@ -227,24 +217,24 @@ words-end (part ∷ ps) vs c rest = ap (λ ws. part_words part vs.0 c.0 ++ ws) (
 -- the words of an entry spell the line that is made of it
 pub entry-spells : (keyword : Keyword) (vs : Values (parts_of keyword)) (c : Choices (parts_of keyword) vs)
     → Spells (keyword_word keyword ∷ words_of (parts_of keyword) vs c []) (line_of_parts keyword vs)
-entry-spells k.Kind vs c = (c, refl)
+entry-spells Keyword.Kind vs c = (c, refl)
 entry-spells _ vs c = (c, refl)
 
 -- where its parts name what they may, and nothing is cut short, it may stand
 stands : (scope : Scope) (keyword : Keyword) (vs : Values (parts_of keyword)) → may_open scope.place keyword ≡ true → IsWithin (counted scope keyword)
     → KeepAll scope (parts_of keyword) vs → is_cut_short scope.place (line_of_parts keyword vs) ≡ false → MayStand scope (line_of_parts keyword vs)
-stands scope k.Kind vs may few keep cut = (opens-kind scope.place may, few, keep.0, keep.1.0.0, keep.1.0.1)
-stands scope k.Var vs may few keep cut = (opens-var scope.place may, keep.0.0, keep.0.1)
-stands scope k.State vs may few keep cut = (may-begin scope.place (opens-state scope.place may) cut, few, keep.0, keep.1.0, keep.1.1.0)
-stands scope k.End vs may few keep cut = is-ended scope.place (opens-end scope.place may) cut
-stands scope k.Root vs may few keep cut = (opens-root scope.place may, few, keep.0, keep.1.1.0)
-stands scope k.Label vs may few keep cut = (opens-label scope.place may, few, keep.0)
-stands scope k.Set vs may few keep cut = (opens-step scope.place k.Set tt may, few, tt)
-stands scope k.If vs may few keep cut = (opens-step scope.place k.If tt may, few, keep.1.1.1.1.0)
-stands scope k.Goto vs may few keep cut = (opens-step scope.place k.Goto tt may, few, keep.0)
-stands scope k.Spawn vs may few keep cut = (opens-step scope.place k.Spawn tt may, few, keep.1.1.0)
-stands scope k.All vs may few keep cut = (opens-step scope.place k.All tt may, few, keep.1.0)
-stands scope keyword vs may few keep cut = (opens-step scope.place keyword tt may, few, tt)
+stands scope Keyword.Kind vs may few keep cut = (opened scope.place Keyword.Kind may, few, keep.0, keep.1.0.0, keep.1.0.1)
+stands scope Keyword.Var vs may few keep cut = (opened scope.place Keyword.Var may, keep.0.0, keep.0.1)
+stands scope Keyword.State vs may few keep cut = (may-begin scope.place (opened scope.place Keyword.State may) cut, few, keep.0, keep.1.0, keep.1.1.0)
+stands scope Keyword.End vs may few keep cut = is-ended scope.place (opened scope.place Keyword.End may) cut
+stands scope Keyword.Root vs may few keep cut = (opened scope.place Keyword.Root may, few, keep.0, keep.1.1.0)
+stands scope Keyword.Label vs may few keep cut = (opened scope.place Keyword.Label may, few, keep.0)
+stands scope Keyword.Set vs may few keep cut = (opened scope.place Keyword.Set may, few, tt)
+stands scope Keyword.If vs may few keep cut = (opened scope.place Keyword.If may, few, keep.1.1.1.1.0)
+stands scope Keyword.Goto vs may few keep cut = (opened scope.place Keyword.Goto may, few, keep.0)
+stands scope Keyword.Spawn vs may few keep cut = (opened scope.place Keyword.Spawn may, few, keep.1.1.0)
+stands scope Keyword.All vs may few keep cut = (opened scope.place Keyword.All may, few, keep.1.0)
+stands scope keyword vs may few keep cut = (opened scope.place keyword may, few, tt)
 
 -- the words that were taken spell the line, and it may stand in the scope if nothing is cut short
 pub record TakesRow (scope : Scope) (s : Scan) (r : What × Scan) : Type 0 where
@@ -254,7 +244,7 @@ pub record TakesRow (scope : Scope) (s : Scan) (r : What × Scan) : Type 0 where
   pub stands : is_cut_short scope.place r.0 ≡ false → MayStand scope r.0
 
 keyword-present : (keyword : Keyword) → is_present (keyword_word keyword) ≡ true
-keyword-present k.Kind = refl
+keyword-present Keyword.Kind = refl
 keyword-present _ = refl
 
 line-by : (scope : Scope) → AreNew 255 scope.variables → (s : Scan) (r : What × Scan) (keyword : Keyword) → Opens scope.place (seen s) keyword

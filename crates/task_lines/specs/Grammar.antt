@@ -1,15 +1,14 @@
 -- The language, apart from how it is read: which words spell which line, and which lines may follow one another.
 use Rattle.std.specs.Prelude.{◌≡◌, ◌<◌, ◌≤◌, List, [], ◌∷◌, ◌++◌, length, codes}
-use Rattle.task_syntax.specs.Places.{AllDiffer}
-use Rattle.task_text.specs.Text.{Word, Row}
-use Rattle.task_lines.specs.declared.step.Step.{Step}
-use Rattle.task_lines.specs.declared.step.Step.TheVariants.{If, Goto, Label, Spawn, All}
-use Rattle.task_lines.specs.declared.item.What.{What}
-use Rattle.task_lines.specs.declared.item.What.TheVariants as what
 use Rattle.task_lines.specs.declared.item.Item.{Item}
+use Rattle.task_lines.specs.declared.item.What.{What}
 use Rattle.task_lines.specs.declared.scope.Place.{Place}
 use Rattle.task_lines.specs.declared.scope.Place.TheVariants.{Outside, Head, Code, Jumped, Ended}
 use Rattle.task_lines.specs.declared.scope.Scope.{Scope}
+use Rattle.task_lines.specs.declared.step.Step.{Step}
+use Rattle.task_lines.specs.declared.step.Step.TheVariants.{If, Goto, Label, Spawn, All}
+use Rattle.task_syntax.specs.Places.{AllDiffer}
+use Rattle.task_text.specs.Text.{Word, Row}
 use Rattle.task_lines.specs.Scope.{first_scope, after}
 use Rattle.task_lines.specs.Table.{Choices, words_of, Entry, entry}
 pub use Rattle.task_lines.specs.Spelling.{future_word, SpellsName, SpellsFuture, SpellsNumber, SpellsTerm, SpellsPassed, SpellsRootTerm, SpellsVariable, operation_word, relation_word, priority_word, EachSpells, SpellsFutures, behind_words, SpellsBehind, SpellsPriority, retry_words}
@@ -53,15 +52,15 @@ MayName s _ = Unit {0}
 
 -- the line may stand behind those that made the scope
 abbrev pub MayStand : Scope → What → Type 0
-MayStand s (what.Kind name arguments) =
+MayStand s (What.Kind name arguments) =
     (s.place ≡ Outside) × (length s.kinds < 64) × IsNew name s.kinds × AllDiffer arguments × (length arguments ≤ 16)
-MayStand s (what.Var variables) =
+MayStand s (What.Var variables) =
     (s.place ≡ Head) × AllDiffer (s.variables ++ variables) × (length (s.variables ++ variables) ≤ 255)
-MayStand s (what.State name holds settled) =
+MayStand s (What.State name holds settled) =
     MayBegin s.place × (length s.states < 32) × IsNew name s.states × AllDiffer holds × AllDiffer settled
-MayStand s (what.Step step) = MayFollow s.place step × (s.steps < 64) × MayName s step
-MayStand s what.End = s.place ≡ Ended
-MayStand s (what.Root name kind arguments behind priority) =
+MayStand s (What.Step step) = MayFollow s.place step × (s.steps < 64) × MayName s step
+MayStand s What.End = s.place ≡ Ended
+MayStand s (What.Root name kind arguments behind priority) =
     (s.place ≡ Outside) × (length s.roots < 16) × IsNew name s.roots × (length arguments ≤ 16)
 
 -- some words spell the line

@@ -1,16 +1,17 @@
 -- The fixed words of the language, and which may open a line where.
 use Rattle.std.specs.Prelude.{Bool, true, false, if◌then◌else◌, List, [], ◌∷◌, map, Option, Some, None, codes}
+use Rattle.task_lines.specs.declared.keyword.Keyword.{Keyword}
+use Rattle.task_lines.specs.declared.keyword.Keyword.TheVariants.{Kind, Var, State, End, Root, Add, Sub, Mul, Div, Rem}
+use Rattle.task_lines.specs.declared.scope.Place.{Place}
+use Rattle.task_lines.specs.declared.scope.Place.TheVariants.{Outside, Head, Code}
 use Rattle.task_syntax.specs.Names.{same_bytes}
 use Rattle.task_syntax.specs.declared.instr.Relation.{Relation}
 use Rattle.task_syntax.specs.declared.instr.Relation.TheVariants.{Less, AtMost, Equal, Differs}
 use Rattle.task_syntax.specs.declared.value.Priority.{Priority}
 use Rattle.task_syntax.specs.declared.value.Priority.TheVariants.{High, Regular, Low}
 use Rattle.task_text.specs.Text.{Word}
-use Rattle.task_lines.specs.declared.keyword.Keyword.{Keyword}
-use Rattle.task_lines.specs.declared.keyword.Keyword.TheVariants.{Kind, Var, State, End, Root, Label, Set, Add, Sub, Mul, Div, Rem, If, Goto, Cell, Rows, Spawn, All, Copy, Drop, Get, Again, Done}
+use Rattle.task_lines.specs.declared.keyword.Keyword.TheVariants.{Label, Set, If, Goto, Cell, Rows, Spawn, All, Copy, Drop, Get, Again, Done}
 use Rattle.task_lines.specs.Spelling.{relation_word, priority_word}
-use Rattle.task_lines.specs.declared.scope.Place.{Place}
-use Rattle.task_lines.specs.declared.scope.Place.TheVariants.{Outside, Head, Code}
 
 -- what stands beside a word in a table
 abbrev pub looked_up : {A : Type 0} → List (Word × A) → Word → Option A

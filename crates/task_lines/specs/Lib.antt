@@ -5,3 +5,4 @@ pub mod Spelling
 pub mod Table
 pub mod Reading
 pub mod Grammar
+pub mod Groups

@@ -1,16 +1,16 @@
 -- The items of a text, line by line, with every fault but an unknown name.
 use Rattle.std.specs.Prelude.{ℕ, Bool, true, false, if◌then◌else◌, List, [], ◌∷◌, length, Result, Ok, Err}
-use Rattle.task_text.specs.declared.fault.Cause.TheVariants.{NoHeader, NoEnd}
-use Rattle.task_text.specs.declared.fault.Fault.{Fault}
-use Rattle.task_text.specs.Fault.{fault_at, ◌>>=◌, ◌>>◌}
-use Rattle.task_text.specs.Text.{Row, lines_of, without_mark, rows_of}
-use Rattle.task_text.specs.Scan.{check_text, whole}
-use Rattle.task_lines.specs.declared.item.What.{What}
-use Rattle.task_lines.specs.declared.item.What.TheVariants as what
 use Rattle.task_lines.specs.declared.item.Item.{Item}
+use Rattle.task_lines.specs.declared.item.What.{What}
 use Rattle.task_lines.specs.declared.scope.Place.{Place}
 use Rattle.task_lines.specs.declared.scope.Place.TheVariants.{Outside, Head, Code, Jumped}
 use Rattle.task_lines.specs.declared.scope.Scope.{Scope}
+use Rattle.task_text.specs.Fault.{fault_at}
+use Rattle.task_text.specs.Scan.{check_text, whole}
+use Rattle.task_text.specs.Text.{Row, lines_of, without_mark, rows_of}
+use Rattle.task_text.specs.declared.fault.Cause.TheVariants.{NoHeader, NoEnd}
+use Rattle.task_text.specs.declared.fault.Fault.{Fault}
+use Rattle.task_text.specs.Fault.{◌>>=◌, ◌>>◌}
 use Rattle.task_lines.specs.Scope.{first_scope, after}
 use Rattle.task_lines.specs.Line.{header_line}
 use Rattle.task_lines.specs.Table.{read_line}
@@ -23,9 +23,9 @@ is_open_state _ = false
 
 -- the line ends a state behind a line that is neither `done` nor `again`, or a kind without states
 abbrev pub is_cut_short : Place → What → Bool
-is_cut_short place (what.State name holds settled) = is_open_state place
-is_cut_short Head what.End = true
-is_cut_short place what.End = is_open_state place
+is_cut_short place (What.State name holds settled) = is_open_state place
+is_cut_short Head What.End = true
+is_cut_short place What.End = is_open_state place
 is_cut_short place _ = false
 
 -- the line of a row, whose faults stand in this order: bytes that are no text, what the words say, an end too soon

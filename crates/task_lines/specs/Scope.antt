@@ -1,17 +1,16 @@
 -- What the lines so far have given, and what a further line makes of it.
-use Rattle.std.specs.Prelude.{ℕ, ◌+◌, Bool, true, false, ◌&&◌, List, [], ◌∷◌, ◌++◌}
 use Rattle.std.specs.List.{list_any}
+use Rattle.std.specs.Prelude.{ℕ, ◌+◌, Bool, true, false, ◌&&◌, List, [], ◌∷◌, ◌++◌}
+use Rattle.task_lines.specs.declared.item.What.{What}
+use Rattle.task_lines.specs.declared.scope.Place.{Place}
+use Rattle.task_lines.specs.declared.scope.Place.TheVariants.{Outside, Head, Code, Jumped, Ended}
+use Rattle.task_lines.specs.declared.scope.Scope.{Scope}
+use Rattle.task_lines.specs.declared.step.Step.{Step}
+use Rattle.task_lines.specs.declared.step.Step.TheVariants.{Goto, Label, Again, Done}
 use Rattle.task_syntax.specs.Names.{same_bytes}
 use Rattle.task_syntax.specs.declared.program.Sort.{Sort}
 use Rattle.task_syntax.specs.declared.program.Sort.TheVariants.{Number, Future}
 use Rattle.task_syntax.specs.declared.program.Variable.{Variable}
-use Rattle.task_lines.specs.declared.item.What.{What}
-use Rattle.task_lines.specs.declared.item.What.TheVariants as what
-use Rattle.task_lines.specs.declared.step.Step.{Step}
-use Rattle.task_lines.specs.declared.step.Step.TheVariants.{Goto, Label, Again, Done}
-use Rattle.task_lines.specs.declared.scope.Place.{Place}
-use Rattle.task_lines.specs.declared.scope.Place.TheVariants.{Outside, Head, Code, Jumped, Ended}
-use Rattle.task_lines.specs.declared.scope.Scope.{Scope}
 
 -- before the first line behind the header
 abbrev pub first_scope : Scope
@@ -30,13 +29,13 @@ labels_behind _ labels = labels
 
 -- the scope behind a line
 abbrev pub after : Scope → What → Scope
-after s (what.Kind name arguments) =
+after s (What.Kind name arguments) =
     record s { place = Head; kinds = s.kinds ++ name ∷ []; variables = arguments; states = []; labels = []; steps = 0 }
-after s (what.Var variables) = record s { variables = s.variables ++ variables }
-after s (what.State name holds settled) = record s { place = Code; states = s.states ++ name ∷ []; labels = []; steps = 0 }
-after s (what.Step step) = record s { place = place_behind step; labels = labels_behind step s.labels; steps = s.steps + 1 }
-after s what.End = record s { place = Outside }
-after s (what.Root name kind arguments behind priority) = record s { roots = s.roots ++ name ∷ [] }
+after s (What.Var variables) = record s { variables = s.variables ++ variables }
+after s (What.State name holds settled) = record s { place = Code; states = s.states ++ name ∷ []; labels = []; steps = 0 }
+after s (What.Step step) = record s { place = place_behind step; labels = labels_behind step s.labels; steps = s.steps + 1 }
+after s What.End = record s { place = Outside }
+after s (What.Root name kind arguments behind priority) = record s { roots = s.roots ++ name ∷ [] }
 
 abbrev pub same_sort : Sort → Sort → Bool
 same_sort Number Number = true

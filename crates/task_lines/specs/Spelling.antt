@@ -1,23 +1,19 @@
 -- Which words spell the parts of a line, apart from how they are read.
 use Rattle.std.specs.Prelude.{◌≡◌, ℕ, ◌⊎◌, Bool, true, false, List, [], ◌∷◌, Option, Some, None, IsTrue, IfSome, codes}
 use Rattle.std.specs.Str.Parse.{digits_value}
+use Rattle.task_lines.specs.declared.item.RootTerm.{RootTerm}
+use Rattle.task_lines.specs.declared.step.Passed.{Passed}
+use Rattle.task_lines.specs.declared.step.Term.{Term}
 use Rattle.task_syntax.specs.Names.{IsName}
-use Rattle.task_syntax.specs.declared.program.Sort.TheVariants as sort
-use Rattle.task_syntax.specs.declared.program.Variable.{Variable}
 use Rattle.task_syntax.specs.declared.instr.MathOp.{MathOp}
-use Rattle.task_syntax.specs.declared.instr.MathOp.TheVariants as op
 use Rattle.task_syntax.specs.declared.instr.Relation.{Relation}
 use Rattle.task_syntax.specs.declared.instr.Relation.TheVariants.{Less, AtMost, Equal, Differs}
+use Rattle.task_syntax.specs.declared.program.Variable.{Variable}
 use Rattle.task_syntax.specs.declared.value.Priority.{Priority}
 use Rattle.task_syntax.specs.declared.value.Priority.TheVariants.{High, Regular, Low}
-use Rattle.task_text.specs.Text.{Word}
 use Rattle.task_text.specs.Scan.{is_number}
-use Rattle.task_lines.specs.declared.step.Term.{Term}
-use Rattle.task_lines.specs.declared.step.Term.TheVariants as term
-use Rattle.task_lines.specs.declared.step.Passed.{Passed}
-use Rattle.task_lines.specs.declared.step.Passed.TheVariants as passed
-use Rattle.task_lines.specs.declared.item.RootTerm.{RootTerm}
-use Rattle.task_lines.specs.declared.item.RootTerm.TheVariants as root_term
+use Rattle.task_text.specs.Text.{Word}
+use Rattle.task_syntax.specs.declared.program.Sort.TheVariants as sort
 
 -- ---- single words
 
@@ -35,26 +31,26 @@ abbrev pub SpellsNumber : Word → ℕ → Type 0
 SpellsNumber word n = IsTrue (is_number word) × (digits_value 10 word ≡ n)
 
 abbrev pub SpellsTerm : Word → Term → Type 0
-SpellsTerm word (term.Literal n) = SpellsNumber word n
-SpellsTerm word (term.Variable name) = SpellsName word name
+SpellsTerm word (Term.Literal n) = SpellsNumber word n
+SpellsTerm word (Term.Variable name) = SpellsName word name
 
 abbrev pub SpellsPassed : Word → Passed → Type 0
-SpellsPassed word (passed.Number t) = SpellsTerm word t
-SpellsPassed word (passed.Future name) = SpellsFuture word name
+SpellsPassed word (Passed.Number t) = SpellsTerm word t
+SpellsPassed word (Passed.Future name) = SpellsFuture word name
 
 abbrev pub SpellsRootTerm : Word → RootTerm → Type 0
-SpellsRootTerm word (root_term.Number n) = SpellsNumber word n
-SpellsRootTerm word (root_term.Root name) = SpellsFuture word name
+SpellsRootTerm word (RootTerm.Number n) = SpellsNumber word n
+SpellsRootTerm word (RootTerm.Root name) = SpellsFuture word name
 
 abbrev pub SpellsVariable : Word → Variable → Type 0
 SpellsVariable word variable = elim variable.sort [ sort.Number ↦ SpellsName word variable.name | sort.Future ↦ SpellsFuture word variable.name ]
 
 abbrev pub operation_word : MathOp → Word
-operation_word op.Add = codes "add"
-operation_word op.Sub = codes "sub"
-operation_word op.Mul = codes "mul"
-operation_word op.Div = codes "div"
-operation_word op.Rem = codes "rem"
+operation_word MathOp.Add = codes "add"
+operation_word MathOp.Sub = codes "sub"
+operation_word MathOp.Mul = codes "mul"
+operation_word MathOp.Div = codes "div"
+operation_word MathOp.Rem = codes "rem"
 
 abbrev pub relation_word : Relation → Word
 relation_word Less = codes "<"

@@ -1,25 +1,22 @@
 -- The language as a table: what stands behind the first word of each line. How a line is read, which words spell it, and
 -- what it may name are all said of the parts of this table.
 use Rattle.std.specs.Prelude.{◌≢◌, ℕ, ◌≤◌, Bool, List, [], ◌∷◌, ◌++◌, length, Option, Some, None, codes}
-use Rattle.task_syntax.specs.Names.{IsName}
-use Rattle.task_syntax.specs.Places.{AllDiffer}
-use Rattle.task_syntax.specs.declared.program.Variable.{Variable}
-use Rattle.task_syntax.specs.declared.instr.MathOp.{MathOp}
-use Rattle.task_syntax.specs.declared.instr.MathOp.TheVariants as op
-use Rattle.task_syntax.specs.declared.instr.Relation.{Relation}
-use Rattle.task_syntax.specs.declared.value.Priority.{Priority}
-use Rattle.task_text.specs.declared.fault.Cause.TheVariants.{UnknownWord, TwiceNamed, BackLabel}
-use Rattle.task_text.specs.Text.{Word}
-use Rattle.task_text.specs.Scan.{is_present, is_future, Parser, ◌>>=◌, ◌>>◌, pure, peek, take_word, refuse, room, fixed, read_name, read_new_name, read_future, each, one_or_more}
-use Rattle.task_lines.specs.declared.keyword.Keyword.{Keyword}
-use Rattle.task_lines.specs.declared.keyword.Keyword.TheVariants as k
-use Rattle.task_lines.specs.declared.step.Term.{Term}
-use Rattle.task_lines.specs.declared.step.Passed.{Passed}
-use Rattle.task_lines.specs.declared.step.Step.TheVariants.{Set, Math, If, Goto, Label, Cell, Rows, Spawn, All, Copy, Drop, Get, Again, Done}
 use Rattle.task_lines.specs.declared.item.RootTerm.{RootTerm}
 use Rattle.task_lines.specs.declared.item.What.{What}
-use Rattle.task_lines.specs.declared.item.What.TheVariants as what
+use Rattle.task_lines.specs.declared.keyword.Keyword.{Keyword}
 use Rattle.task_lines.specs.declared.scope.Scope.{Scope}
+use Rattle.task_lines.specs.declared.step.Passed.{Passed}
+use Rattle.task_lines.specs.declared.step.Step.TheVariants.{Set, Math, If, Goto, Label, Cell, Rows, Spawn, All, Copy, Drop, Get, Again, Done}
+use Rattle.task_lines.specs.declared.step.Term.{Term}
+use Rattle.task_syntax.specs.Names.{IsName}
+use Rattle.task_syntax.specs.Places.{AllDiffer}
+use Rattle.task_syntax.specs.declared.instr.MathOp.{MathOp}
+use Rattle.task_syntax.specs.declared.instr.Relation.{Relation}
+use Rattle.task_syntax.specs.declared.program.Variable.{Variable}
+use Rattle.task_syntax.specs.declared.value.Priority.{Priority}
+use Rattle.task_text.specs.Scan.{is_present, is_future, Parser, ◌>>=◌, ◌>>◌, pure, peek, take_word, refuse, room, fixed, read_name, read_new_name, read_future, each, one_or_more}
+use Rattle.task_text.specs.Text.{Word}
+use Rattle.task_text.specs.declared.fault.Cause.TheVariants.{UnknownWord, TwiceNamed, BackLabel}
 use Rattle.task_lines.specs.Keyword.{keyword_word, opening}
 use Rattle.task_lines.specs.Line.{read_term, read_variable, read_behind, read_priority, read_last_priority, read_retry, read_relation, is_argument, read_argument, read_member, is_root_argument, read_root_argument, read_holds, read_settled}
 use Rattle.task_lines.specs.Spelling.{future_word, SpellsTerm, SpellsPassed, SpellsRootTerm, SpellsFuture, SpellsVariable, operation_word, relation_word, EachSpells, SpellsFutures, SpellsBehind, SpellsPriority, retry_words}
@@ -195,55 +192,55 @@ KeepAll s (part ∷ parts) vs = Keeps s part vs.0 × KeepAll s parts vs.1
 
 -- what stands behind the first word
 abbrev pub parts_of : Keyword → List Part
-parts_of k.Kind = ANewName OfKinds ∷ KindVariables ∷ []
-parts_of k.Var = MoreVariables ∷ []
-parts_of k.State = ANewName OfStates ∷ HeldFutures ∷ SettledFutures ∷ []
-parts_of k.End = []
-parts_of k.Root = ANewName OfRoots ∷ AName ∷ RootArguments ∷ Predecessor ∷ LastPriority ∷ []
-parts_of k.Label = ANewName OfLabels ∷ []
-parts_of k.Set = AName ∷ ATerm ∷ []
-parts_of k.Add = AName ∷ ATerm ∷ ATerm ∷ []
-parts_of k.Sub = AName ∷ ATerm ∷ ATerm ∷ []
-parts_of k.Mul = AName ∷ ATerm ∷ ATerm ∷ []
-parts_of k.Div = AName ∷ ATerm ∷ ATerm ∷ []
-parts_of k.Rem = AName ∷ ATerm ∷ ATerm ∷ []
-parts_of k.If = ATerm ∷ ARelation ∷ ATerm ∷ GotoWord ∷ ATarget ∷ []
-parts_of k.Goto = ATarget ∷ []
-parts_of k.Cell = AName ∷ AName ∷ ATerm ∷ []
-parts_of k.Rows = AName ∷ AName ∷ []
-parts_of k.Spawn = AFuture ∷ AName ∷ Arguments ∷ Predecessor ∷ APriority ∷ ARetry ∷ []
-parts_of k.All = AFuture ∷ Members ∷ APriority ∷ ARetry ∷ []
-parts_of k.Copy = AFuture ∷ AFuture ∷ []
-parts_of k.Drop = AFuture ∷ []
-parts_of k.Get = AName ∷ AFuture ∷ []
-parts_of k.Again = AName ∷ Predecessor ∷ LastPriority ∷ []
-parts_of k.Done = ATerm ∷ []
+parts_of Keyword.Kind = ANewName OfKinds ∷ KindVariables ∷ []
+parts_of Keyword.Var = MoreVariables ∷ []
+parts_of Keyword.State = ANewName OfStates ∷ HeldFutures ∷ SettledFutures ∷ []
+parts_of Keyword.End = []
+parts_of Keyword.Root = ANewName OfRoots ∷ AName ∷ RootArguments ∷ Predecessor ∷ LastPriority ∷ []
+parts_of Keyword.Label = ANewName OfLabels ∷ []
+parts_of Keyword.Set = AName ∷ ATerm ∷ []
+parts_of Keyword.Add = AName ∷ ATerm ∷ ATerm ∷ []
+parts_of Keyword.Sub = AName ∷ ATerm ∷ ATerm ∷ []
+parts_of Keyword.Mul = AName ∷ ATerm ∷ ATerm ∷ []
+parts_of Keyword.Div = AName ∷ ATerm ∷ ATerm ∷ []
+parts_of Keyword.Rem = AName ∷ ATerm ∷ ATerm ∷ []
+parts_of Keyword.If = ATerm ∷ ARelation ∷ ATerm ∷ GotoWord ∷ ATarget ∷ []
+parts_of Keyword.Goto = ATarget ∷ []
+parts_of Keyword.Cell = AName ∷ AName ∷ ATerm ∷ []
+parts_of Keyword.Rows = AName ∷ AName ∷ []
+parts_of Keyword.Spawn = AFuture ∷ AName ∷ Arguments ∷ Predecessor ∷ APriority ∷ ARetry ∷ []
+parts_of Keyword.All = AFuture ∷ Members ∷ APriority ∷ ARetry ∷ []
+parts_of Keyword.Copy = AFuture ∷ AFuture ∷ []
+parts_of Keyword.Drop = AFuture ∷ []
+parts_of Keyword.Get = AName ∷ AFuture ∷ []
+parts_of Keyword.Again = AName ∷ Predecessor ∷ LastPriority ∷ []
+parts_of Keyword.Done = ATerm ∷ []
 
 -- the line that the parts make
 abbrev pub line_of_parts : (keyword : Keyword) → Values (parts_of keyword) → What
-line_of_parts k.Kind v = what.Kind v.0 v.1.0
-line_of_parts k.Var v = what.Var v.0
-line_of_parts k.State v = what.State v.0 v.1.0 v.1.1.0
-line_of_parts k.End v = what.End
-line_of_parts k.Root v = what.Root v.0 v.1.0 v.1.1.0 v.1.1.1.0 v.1.1.1.1.0
-line_of_parts k.Label v = what.Step (Label v.0)
-line_of_parts k.Set v = what.Step (Set v.0 v.1.0)
-line_of_parts k.Add v = what.Step (Math op.Add v.0 v.1.0 v.1.1.0)
-line_of_parts k.Sub v = what.Step (Math op.Sub v.0 v.1.0 v.1.1.0)
-line_of_parts k.Mul v = what.Step (Math op.Mul v.0 v.1.0 v.1.1.0)
-line_of_parts k.Div v = what.Step (Math op.Div v.0 v.1.0 v.1.1.0)
-line_of_parts k.Rem v = what.Step (Math op.Rem v.0 v.1.0 v.1.1.0)
-line_of_parts k.If v = what.Step (If v.1.0 v.0 v.1.1.0 v.1.1.1.1.0)
-line_of_parts k.Goto v = what.Step (Goto v.0)
-line_of_parts k.Cell v = what.Step (Cell v.0 v.1.0 v.1.1.0)
-line_of_parts k.Rows v = what.Step (Rows v.0 v.1.0)
-line_of_parts k.Spawn v = what.Step (Spawn v.0 v.1.0 v.1.1.0 v.1.1.1.0 v.1.1.1.1.0 v.1.1.1.1.1.0)
-line_of_parts k.All v = what.Step (All v.0 v.1.0 v.1.1.0 v.1.1.1.0)
-line_of_parts k.Copy v = what.Step (Copy v.0 v.1.0)
-line_of_parts k.Drop v = what.Step (Drop v.0)
-line_of_parts k.Get v = what.Step (Get v.0 v.1.0)
-line_of_parts k.Again v = what.Step (Again v.0 v.1.0 v.1.1.0)
-line_of_parts k.Done v = what.Step (Done v.0)
+line_of_parts Keyword.Kind v = What.Kind v.0 v.1.0
+line_of_parts Keyword.Var v = What.Var v.0
+line_of_parts Keyword.State v = What.State v.0 v.1.0 v.1.1.0
+line_of_parts Keyword.End v = What.End
+line_of_parts Keyword.Root v = What.Root v.0 v.1.0 v.1.1.0 v.1.1.1.0 v.1.1.1.1.0
+line_of_parts Keyword.Label v = What.Step (Label v.0)
+line_of_parts Keyword.Set v = What.Step (Set v.0 v.1.0)
+line_of_parts Keyword.Add v = What.Step (Math MathOp.Add v.0 v.1.0 v.1.1.0)
+line_of_parts Keyword.Sub v = What.Step (Math MathOp.Sub v.0 v.1.0 v.1.1.0)
+line_of_parts Keyword.Mul v = What.Step (Math MathOp.Mul v.0 v.1.0 v.1.1.0)
+line_of_parts Keyword.Div v = What.Step (Math MathOp.Div v.0 v.1.0 v.1.1.0)
+line_of_parts Keyword.Rem v = What.Step (Math MathOp.Rem v.0 v.1.0 v.1.1.0)
+line_of_parts Keyword.If v = What.Step (If v.1.0 v.0 v.1.1.0 v.1.1.1.1.0)
+line_of_parts Keyword.Goto v = What.Step (Goto v.0)
+line_of_parts Keyword.Cell v = What.Step (Cell v.0 v.1.0 v.1.1.0)
+line_of_parts Keyword.Rows v = What.Step (Rows v.0 v.1.0)
+line_of_parts Keyword.Spawn v = What.Step (Spawn v.0 v.1.0 v.1.1.0 v.1.1.1.0 v.1.1.1.1.0 v.1.1.1.1.1.0)
+line_of_parts Keyword.All v = What.Step (All v.0 v.1.0 v.1.1.0 v.1.1.1.0)
+line_of_parts Keyword.Copy v = What.Step (Copy v.0 v.1.0)
+line_of_parts Keyword.Drop v = What.Step (Drop v.0)
+line_of_parts Keyword.Get v = What.Step (Get v.0 v.1.0)
+line_of_parts Keyword.Again v = What.Step (Again v.0 v.1.0 v.1.1.0)
+line_of_parts Keyword.Done v = What.Step (Done v.0)
 
 -- a line as its first word and its parts
 pub record Entry : Type 0 where
@@ -255,38 +252,38 @@ abbrev pub entry_by : (keyword : Keyword) → Values (parts_of keyword) → Entr
 entry_by keyword values = record { word = keyword_word keyword; parts = parts_of keyword; values = values }
 
 abbrev pub entry : What → Entry
-entry (what.Kind name arguments) = entry_by k.Kind (name, (arguments, tt))
-entry (what.Var variables) = entry_by k.Var (variables, tt)
-entry (what.State name holds settled) = entry_by k.State (name, (holds, (settled, tt)))
-entry (what.Step (Label name)) = entry_by k.Label (name, tt)
-entry (what.Step (Set to value)) = entry_by k.Set (to, (value, tt))
-entry (what.Step (Math operation to left right)) =
-    record { word = operation_word operation; parts = parts_of k.Add; values = (to, (left, (right, tt))) }
-entry (what.Step (If relation left right target)) = entry_by k.If (left, (relation, (right, (tt, (target, tt)))))
-entry (what.Step (Goto target)) = entry_by k.Goto (target, tt)
-entry (what.Step (Cell to column row)) = entry_by k.Cell (to, (column, (row, tt)))
-entry (what.Step (Rows to column)) = entry_by k.Rows (to, (column, tt))
-entry (what.Step (Spawn to kind arguments behind priority retry)) =
-    entry_by k.Spawn (to, (kind, (arguments, (behind, (priority, (retry, tt))))))
-entry (what.Step (All to members priority retry)) = entry_by k.All (to, (members, (priority, (retry, tt))))
-entry (what.Step (Copy to source)) = entry_by k.Copy (to, (source, tt))
-entry (what.Step (Drop future)) = entry_by k.Drop (future, tt)
-entry (what.Step (Get to future)) = entry_by k.Get (to, (future, tt))
-entry (what.Step (Again target behind priority)) = entry_by k.Again (target, (behind, (priority, tt)))
-entry (what.Step (Done value)) = entry_by k.Done (value, tt)
-entry what.End = entry_by k.End tt
-entry (what.Root name kind arguments behind priority) =
-    entry_by k.Root (name, (kind, (arguments, (behind, (priority, tt)))))
+entry (What.Kind name arguments) = entry_by Keyword.Kind (name, (arguments, tt))
+entry (What.Var variables) = entry_by Keyword.Var (variables, tt)
+entry (What.State name holds settled) = entry_by Keyword.State (name, (holds, (settled, tt)))
+entry (What.Step (Label name)) = entry_by Keyword.Label (name, tt)
+entry (What.Step (Set to value)) = entry_by Keyword.Set (to, (value, tt))
+entry (What.Step (Math operation to left right)) =
+    record { word = operation_word operation; parts = parts_of Keyword.Add; values = (to, (left, (right, tt))) }
+entry (What.Step (If relation left right target)) = entry_by Keyword.If (left, (relation, (right, (tt, (target, tt)))))
+entry (What.Step (Goto target)) = entry_by Keyword.Goto (target, tt)
+entry (What.Step (Cell to column row)) = entry_by Keyword.Cell (to, (column, (row, tt)))
+entry (What.Step (Rows to column)) = entry_by Keyword.Rows (to, (column, tt))
+entry (What.Step (Spawn to kind arguments behind priority retry)) =
+    entry_by Keyword.Spawn (to, (kind, (arguments, (behind, (priority, (retry, tt))))))
+entry (What.Step (All to members priority retry)) = entry_by Keyword.All (to, (members, (priority, (retry, tt))))
+entry (What.Step (Copy to source)) = entry_by Keyword.Copy (to, (source, tt))
+entry (What.Step (Drop future)) = entry_by Keyword.Drop (future, tt)
+entry (What.Step (Get to future)) = entry_by Keyword.Get (to, (future, tt))
+entry (What.Step (Again target behind priority)) = entry_by Keyword.Again (target, (behind, (priority, tt)))
+entry (What.Step (Done value)) = entry_by Keyword.Done (value, tt)
+entry What.End = entry_by Keyword.End tt
+entry (What.Root name kind arguments behind priority) =
+    entry_by Keyword.Root (name, (kind, (arguments, (behind, (priority, tt)))))
 
 -- ---- how lines are read
 
 -- how many lines of this kind there are where one stands, and how many there may be
 abbrev pub counted : Scope → Keyword → Option (ℕ × ℕ)
-counted s k.Kind = Some (length s.kinds, 64)
-counted s k.Var = None
-counted s k.State = Some (length s.states, 32)
-counted s k.End = None
-counted s k.Root = Some (length s.roots, 16)
+counted s Keyword.Kind = Some (length s.kinds, 64)
+counted s Keyword.Var = None
+counted s Keyword.State = Some (length s.states, 32)
+counted s Keyword.End = None
+counted s Keyword.Root = Some (length s.roots, 16)
 counted s _ = Some (s.steps, 64)
 
 -- the first word of a line, of which there may be no more than the limit, and what follows
@@ -301,14 +298,14 @@ keyword_line s keyword = begun (counted s keyword) (read_parts s (parts_of keywo
 -- the word of an operation, a number variable and two operands
 unfoldable pub operation_line : Scope → MathOp → Parser What
 operation_line s operation =
-    begun (Some (s.steps, 64)) (read_parts s (AName ∷ ATerm ∷ ATerm ∷ []) (λ v. what.Step (Math operation v.0 v.1.0 v.1.1.0)))
+    begun (Some (s.steps, 64)) (read_parts s (AName ∷ ATerm ∷ ATerm ∷ []) (λ v. What.Step (Math operation v.0 v.1.0 v.1.1.0)))
 
 abbrev pub operation_keyword : MathOp → Keyword
-operation_keyword op.Add = k.Add
-operation_keyword op.Sub = k.Sub
-operation_keyword op.Mul = k.Mul
-operation_keyword op.Div = k.Div
-operation_keyword op.Rem = k.Rem
+operation_keyword MathOp.Add = Keyword.Add
+operation_keyword MathOp.Sub = Keyword.Sub
+operation_keyword MathOp.Mul = Keyword.Mul
+operation_keyword MathOp.Div = Keyword.Div
+operation_keyword MathOp.Rem = Keyword.Rem
 
 abbrev pub line_by : Scope → Option Keyword → Parser What
 line_by s None = refuse UnknownWord

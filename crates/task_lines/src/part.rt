@@ -93,7 +93,7 @@ fn count_in_both(before: &[Variable], found: &[Variable]) -> usize
 }
 
 /// A variable that is none of those of its kind so far, which may be `limit` in number.
-#[tactic(auto, unfolding(crate::specs::Line::read_variable, task_text::specs::Scan::need))]
+#[tactic(auto, unfolding(crate::specs::Line::read_variable, task_text::specs::Scan::need, task_text::specs::Scan::room))]
 pub(crate) fn read_variable(
     limit: usize,
     before: &[Variable],
@@ -159,7 +159,7 @@ fn passed_of(word: &[u8]) -> Passed
 }
 
 /// A number or a future that a spawn passes, behind those found before.
-#[tactic(auto, unfolding(crate::specs::Line::read_argument, task_text::specs::Scan::need))]
+#[tactic(auto, unfolding(crate::specs::Line::read_argument, task_text::specs::Scan::need, task_text::specs::Scan::room))]
 pub(crate) fn read_argument(found: &[Passed], words: &mut Words<'_>) -> Result<Passed, Fault>
     requires { IsTrue (spec.is_argument (seen words.old)) }
     ensures read { Scans (spec.read_argument found.now words.old) result words.new }
@@ -173,7 +173,7 @@ pub(crate) fn read_argument(found: &[Passed], words: &mut Words<'_>) -> Result<P
 }
 
 /// A member of an aggregate, behind those found before.
-#[tactic(auto, unfolding(crate::specs::Line::read_member, task_text::specs::Scan::need))]
+#[tactic(auto, unfolding(crate::specs::Line::read_member, task_text::specs::Scan::need, task_text::specs::Scan::room))]
 pub(crate) fn read_member(found: &[Name], words: &mut Words<'_>) -> Result<Name, Fault>
     ensures read { Scans (spec.read_member found.now words.old) result words.new }
     ensures next { IfOk result (λ _. words.new ≡ moved words.old) }
@@ -193,7 +193,7 @@ pub(crate) fn is_root_argument(word: &[u8]) -> bool
 }
 
 /// A number or a root that a root passes, behind those found before.
-#[tactic(auto, unfolding(crate::specs::Line::read_root_argument, task_text::specs::Scan::need, task_text::specs::Scan::read_future, task_text::specs::Scan::read_number))]
+#[tactic(auto, unfolding(crate::specs::Line::read_root_argument, task_text::specs::Scan::need, task_text::specs::Scan::room, task_text::specs::Scan::read_future, task_text::specs::Scan::read_number))]
 pub(crate) fn read_root_argument(
     found: &[RootTerm],
     words: &mut Words<'_>,

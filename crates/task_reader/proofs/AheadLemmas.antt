@@ -1,6 +1,5 @@
 -- What is looked for ahead is what the definitions list.
 use Rattle.task_reader.proofs.Vocabulary.{◌≡◌, ◌≤◌, ℕ, ◌+◌, Bool, true, false, cond, not, ◌||◌, List, [], ◌∷◌, ◌++◌, take, length, refl, sym, ◌∙◌, arith, list_any, prefix_len, take_while, one-add, length-prefix_len, list_any-append, same_bytes, is_among, Step, Label, What, Item, step_label, label_names, state_names, is_label, steps_to, steps_ahead, is_step, is_inside, labels, passes_by, begins}
-use Rattle.task_lines.specs.declared.item.What.TheVariants as what
 
 while-step : {X : Type 0} (b : Bool) (test : X → Bool) (n : ℕ) (x : X) (xs : List X)
     → list_any test (take (cond b (1 + n) 0) (x ∷ xs)) ≡ cond b (test x || list_any test (take n xs)) false
@@ -15,7 +14,7 @@ label-step : (name : List ℕ) (line : ℕ) (what : What) (items : List Item) (r
     → rest ≡ is_among (label_names items) name
     → let item : Item = record { line = line; what = what } in
     cond (is_step item) (labels name item || rest) false ≡ is_among (label_names (item ∷ items)) name
-label-step name line (what.Step step) items rest h = rw h (sym (step_label-any name step (label_names items)))
+label-step name line (What.Step step) items rest h = rw h (sym (step_label-any name step (label_names items)))
 label-step name line _ items rest h = refl
 
 pub label_names-is : (name : List ℕ) (items : List Item) → list_any (labels name) (take_while is_step items) ≡ is_among (label_names items) name
@@ -27,8 +26,8 @@ state-step : (name : List ℕ) (line : ℕ) (what : What) (items : List Item) (r
     → rest ≡ is_among (state_names items) name
     → let item : Item = record { line = line; what = what } in
     cond (is_inside item) (begins name item || rest) false ≡ is_among (state_names (item ∷ items)) name
-state-step name line (what.State other holds settled) items rest h = rw h refl
-state-step name line what.End items rest h = refl
+state-step name line (What.State other holds settled) items rest h = rw h refl
+state-step name line What.End items rest h = refl
 state-step name line _ items rest h = h
 
 pub state_names-is : (name : List ℕ) (items : List Item) → list_any (begins name) (take_while is_inside items) ≡ is_among (state_names items) name
@@ -43,7 +42,7 @@ to-step : (name : List ℕ) (line : ℕ) (what : What) (items : List Item) (n : 
     → n ≡ steps_to name items
     → let item : Item = record { line = line; what = what } in
     cond (passes_by name item) (1 + n) 0 ≡ steps_to name (item ∷ items)
-to-step name line (what.Step step) items n h = go (is_label name step)
+to-step name line (What.Step step) items n h = go (is_label name step)
   where
     go : (b : Bool) → cond (not b) (1 + n) 0 ≡ cond b 0 (steps_to name items + 1)
     go true = refl
@@ -60,7 +59,7 @@ steps_to-is name items = length-prefix_len (passes_by name) items ∙ steps-are 
 to-le : (name : List ℕ) (line : ℕ) (what : What) (items : List Item)
     → steps_to name items ≤ steps_ahead items
     → let item : Item = record { line = line; what = what } in steps_to name (item ∷ items) ≤ steps_ahead (item ∷ items)
-to-le name line (what.Step step) items h = go (is_label name step)
+to-le name line (What.Step step) items h = go (is_label name step)
   where
     go : (b : Bool) → cond b 0 (steps_to name items + 1) ≤ steps_ahead items + 1
     go true = omega arith

@@ -1,29 +1,12 @@
 -- Each line of the language is read as its entry in the table asks.
-use Rattle.task_reader.proofs.Vocabulary.{◌≡◌, ℕ, Bool, true, false, cond, Option, Some, None, List, [], ◌∷◌, ◌++◌, drop, Ok, Err, refl, sym, ◌∙◌, ap, subst, IsSome, nat_lt, is_some, codes, if◌then◌else◌, length-map, same_bytes, Variable, Priority, Regular, Cause, NoHeader, UnknownWord, BadName, BadNumber, TwiceNamed, TooMany, BackLabel, Fault, Word, is_missing, is_present, is_future, is_no_bad_number, Scan, seen, moved, fault_here, Outcome, Parser, and_then, pure, take_word, refuse, need, room, fixed, read_name, read_new_name, read_future, eat, one_or_more, What, Keyword, Place, Scope, opening, relation_of, priority_of, term_of, read_term, variable_of, read_variable, read_other_future, read_behind, priority_by, read_priority, last_priority_by, read_last_priority, read_retry, relation_by, read_relation, header_line, read_holds, read_settled, is_root_argument, root_term_of, read_root_argument, is_argument, passed_of, read_argument, read_member, Part, GotoWord, AName, ANewName, ATarget, ATerm, ARelation, AFuture, KindVariables, MoreVariables, Arguments, RootArguments, Members, HeldFutures, SettledFutures, Predecessor, APriority, LastPriority, ARetry, Values, names_of, read_part, read_parts, parts_of, line_of_parts, counted, begun, keyword_line, line_by, read_line, Test, Asked, End, One, failed_by, this_word, a_name, a_future, new_name, an_operand, is_relation, is_priority, within, opens, a_variable, other_future, an_argument, a_member, at_least_one, where_word, behind_part, priority_part, last_priority_part, retry_part, holds_part, settled_part, header_asked, keyword_asked, opened_by, line_asked, part_asked, parts_asked}
-use Rattle.task_text.specs.Scan.{◌>>=◌, ◌>>◌}
-use Rattle.task_reader.proofs.AskedWords.{Agrees, FollowsAt, Follows, ItemTested, tested, then-at, then-follows, pure-follows, map-follows, word-follows, by-agrees, where-follows, at-same, taken-at, refused-at, each-follows, some-follows}
+use Rattle.task_reader.proofs.Vocabulary.{◌≡◌, ℕ, Bool, true, false, cond, Option, Some, None, List, [], ◌∷◌, ◌++◌, drop, Ok, Err, refl, sym, ◌∙◌, ap, subst, IsSome, nat_lt, is_some, codes, if◌then◌else◌, length-map, same_bytes, Priority, Regular, UnknownWord, TwiceNamed, TooMany, BackLabel, Word, is_missing, is_present, is_future, Scan, seen, moved, fault_here, Outcome, Parser, and_then, pure, take_word, refuse, need, room, fixed, read_name, read_new_name, read_future, eat, one_or_more, What, Keyword, Place, Scope, opening, relation_of, priority_of, term_of, read_term, variable_of, read_variable, read_other_future, read_behind, priority_by, read_priority, last_priority_by, read_last_priority, read_retry, relation_by, read_relation, header_line, read_holds, read_settled, is_root_argument, root_term_of, read_root_argument, is_argument, passed_of, read_argument, read_member, Part, GotoWord, AName, ANewName, ATarget, ATerm, ARelation, AFuture, KindVariables, MoreVariables, Arguments, RootArguments, Members, HeldFutures, SettledFutures, Predecessor, APriority, LastPriority, ARetry, Values, names_of, read_part, read_parts, parts_of, line_of_parts, counted, begun, keyword_line, line_by, read_line, Test, Asked, End, One, failed_by, this_word, a_name, a_future, new_name, an_operand, is_relation, is_priority, opens, a_variable, an_argument, a_member, at_least_one, where_word, behind_part, priority_part, last_priority_part, retry_part, holds_part, settled_part, header_asked, keyword_asked, opened_by, line_asked, part_asked, parts_asked, map, length, tested, header_word, another_future, ◌>>=◌, ◌>>◌}
+use Rattle.task_reader.proofs.AskedWords.{Agrees, FollowsAt, Follows, then-at, then-follows, pure-follows, map-follows, word-follows, by-agrees, where-follows, at-same, taken-at, refused-at, each-follows, some-follows}
 
 -- ---- words
 
-name-follows : Follows read_name (One a_name)
-unfolding read_name need
-name-follows = word-follows a_name (λ w. w) refl
-
-new-name-follows : (cause : Cause) (taken : List (List ℕ)) → Follows (read_new_name cause taken) (One (new_name cause taken))
-unfolding read_new_name need
-new-name-follows cause taken = word-follows (new_name cause taken) (λ w. w) refl
-
-term-follows : Follows read_term (One an_operand)
-unfolding read_term need
-term-follows = word-follows an_operand term_of refl
-
-future-follows : Follows read_future (One a_future)
-unfolding read_future need
-future-follows = word-follows a_future (drop 1) refl
-
 fixed-follows : (word : Word) → IsSome (failed_by (this_word word) []) → Follows (fixed word) (One (this_word word))
-unfolding fixed need
-fixed-follows word some = map-follows (tested (this_word word) (λ w. w)) (λ _. tt) (One (this_word word)) (word-follows (this_word word) (λ w. w) some)
+unfolding fixed
+fixed-follows word some = word-follows (this_word word) (λ _. tt) some
 
 -- ---- what the next word decides
 
@@ -92,64 +75,45 @@ eaten-follows {A} word f part some found absent s = where-follows (eat word >>= 
       is b e = ap (λ b. and_then (cond {A = Outcome Bool} b (Ok (true, moved s)) (Ok (false, s))) f) e
 
 behind-follows : Follows read_behind behind_part
-unfolding read_behind
-behind-follows = eaten-follows (codes "behind") _ (One a_future) refl (map-follows read_future Some (One a_future) future-follows) (pure-follows {A = Option (List ℕ)} None)
+unfolding read_behind read_future
+behind-follows = eaten-follows (codes "behind") _ (One a_future) refl (map-follows (tested a_future (drop 1)) Some (One a_future) (word-follows a_future (drop 1) refl)) (pure-follows {A = Option (List ℕ)} None)
 
 -- ---- lists
 
-variable-tested : (limit : ℕ) (before : List Variable) → ItemTested (λ found. read_variable limit (before ++ found)) (a_variable limit before) variable_of
-unfolding read_variable room need
-variable-tested limit before words s = refl
-
-argument-variable-tested : ItemTested (read_variable 16) (a_variable 16 []) variable_of
-unfolding read_variable room need
-argument-variable-tested words s = refl
-
-other-future-tested : ItemTested read_other_future other_future (drop 1)
-unfolding read_other_future need
-other-future-tested words s = refl
-
-argument-tested : ItemTested read_argument an_argument passed_of
-unfolding read_argument room need
-argument-tested words s = ap (λ n. tested ((is_no_bad_number, BadNumber) ∷ within n 16 ∷ []) passed_of s) (length-map words passed_of)
-
-root-argument-tested : ItemTested read_root_argument an_argument root_term_of
-unfolding read_root_argument room need
-root-argument-tested words s = ap (λ n. tested ((is_no_bad_number, BadNumber) ∷ within n 16 ∷ []) root_term_of s) (length-map words root_term_of)
-
-member-tested : ItemTested read_member a_member (drop 1)
-unfolding read_member room need
-member-tested words s = ap (λ n. tested ((is_future, BadName) ∷ within n 8 ∷ []) (drop 1) s) (length-map words (drop 1))
-
-futures-follow : (test : Word → Bool) → test [] ≡ false → Follows (one_or_more test read_other_future) (at_least_one test other_future)
-futures-follow test none = some-follows test read_other_future other_future (drop 1) other-future-tested none refl
+futures-follow : (test : Word → Bool) → test [] ≡ false → Follows (one_or_more test read_other_future) (at_least_one test another_future)
+unfolding read_other_future
+futures-follow test none = some-follows test read_other_future another_future (drop 1) (λ words s. refl) none refl
 
 holds-follows : Follows read_holds holds_part
 unfolding read_holds
-holds-follows = eaten-follows (codes "holds") _ (at_least_one is_future other_future) refl (futures-follow is_future refl) (pure-follows {A = List (List ℕ)} [])
+holds-follows = eaten-follows (codes "holds") _ (at_least_one is_future another_future) refl (futures-follow is_future refl) (pure-follows {A = List (List ℕ)} [])
 
 settled-follows : Follows read_settled settled_part
 unfolding read_settled
-settled-follows s = missing-or read_settled [] (fixed (codes "settled") >> one_or_more is_present read_other_future) (λ next. One (this_word (codes "settled")) (at_least_one is_present other_future next)) s refl
-    (then-follows (fixed (codes "settled")) (λ _. one_or_more is_present read_other_future) (One (this_word (codes "settled"))) (at_least_one is_present other_future)
+settled-follows s = missing-or read_settled [] (fixed (codes "settled") >> one_or_more is_present read_other_future) (λ next. One (this_word (codes "settled")) (at_least_one is_present another_future next)) s refl
+    (then-follows (fixed (codes "settled")) (λ _. one_or_more is_present read_other_future) (One (this_word (codes "settled"))) (at_least_one is_present another_future)
     (fixed-follows (codes "settled") refl) (λ _. futures-follow is_present refl) s)
 
 -- ---- parts
 
 part-follows : (scope : Scope) (part : Part) → Follows (read_part scope part) (part_asked scope part)
+unfolding read_name read_new_name read_future read_term read_variable read_argument read_root_argument read_member
 part-follows scope GotoWord = fixed-follows (codes "goto") refl
-part-follows scope AName = name-follows
-part-follows scope (ANewName named) = new-name-follows TwiceNamed (names_of scope named)
-part-follows scope ATarget = new-name-follows BackLabel scope.labels
-part-follows scope ATerm = term-follows
+part-follows scope AName = word-follows a_name (λ w. w) refl
+part-follows scope (ANewName named) = word-follows (new_name TwiceNamed (names_of scope named)) (λ w. w) refl
+part-follows scope ATarget = word-follows (new_name BackLabel scope.labels) (λ w. w) refl
+part-follows scope ATerm = word-follows an_operand term_of refl
 part-follows scope ARelation = relation-follows
-part-follows scope AFuture = future-follows
-part-follows scope KindVariables = each-follows is_present (read_variable 16) (a_variable 16 []) variable_of argument-variable-tested refl []
+part-follows scope AFuture = word-follows a_future (drop 1) refl
+part-follows scope KindVariables = each-follows is_present (read_variable 16) (λ found. a_variable 16 (map variable_of found)) variable_of (λ words s. refl) refl []
 part-follows scope MoreVariables =
-    some-follows is_present (λ found. read_variable 255 (scope.variables ++ found)) (a_variable 255 scope.variables) variable_of (variable-tested 255 scope.variables) refl refl
-part-follows scope Arguments = each-follows is_argument read_argument an_argument passed_of argument-tested refl []
-part-follows scope RootArguments = each-follows is_root_argument read_root_argument an_argument root_term_of root-argument-tested refl []
-part-follows scope Members = some-follows is_future read_member a_member (drop 1) member-tested refl refl
+    some-follows is_present (λ found. read_variable 255 (scope.variables ++ found)) (λ found. a_variable 255 (scope.variables ++ map variable_of found)) variable_of (λ words s. refl) refl refl
+part-follows scope Arguments =
+    each-follows is_argument read_argument (λ found. an_argument (length found)) passed_of (λ words s. ap (λ n. tested (an_argument n) passed_of s) (length-map words passed_of)) refl []
+part-follows scope RootArguments =
+    each-follows is_root_argument read_root_argument (λ found. an_argument (length found)) root_term_of (λ words s. ap (λ n. tested (an_argument n) root_term_of s) (length-map words root_term_of)) refl []
+part-follows scope Members =
+    some-follows is_future read_member (λ found. a_member (length found)) (drop 1) (λ words s. ap (λ n. tested (a_member n) (drop 1) s) (length-map words (drop 1))) refl refl
 part-follows scope HeldFutures = holds-follows
 part-follows scope SettledFutures = settled-follows
 part-follows scope Predecessor = behind-follows
@@ -170,15 +134,15 @@ open-at : {A : Type 0} (count limit : ℕ) (q : Parser A) (part : Asked → Aske
     → FollowsAt (room count limit >> (take_word >> q)) (λ next. One (opens (Some (count, limit))) (part next)) s
 unfolding room need
 open-at {A} count limit q part s there h =
-    at-same (room count limit >> (take_word >> q)) (tested (opens (Some (count, limit))) (λ w. w) >>= (λ _. q)) (λ next. One (opens (Some (count, limit))) (part next)) s (by (nat_lt count limit))
+    at-same (room count limit >> (take_word >> q)) (tested (opens (Some (count, limit))) (λ w. w) >>= (λ _. q)) (λ next. One (opens (Some (count, limit))) (part next)) s (same (nat_lt count limit))
     (then-follows (tested (opens (Some (count, limit))) (λ w. w)) (λ _. q) (One (opens (Some (count, limit)))) part (word-follows (opens (Some (count, limit))) (λ w. w) refl) (λ _. h) s) where
-      fault : Fault
-      fault = fault_here TooMany s
+      passed : Bool → Scan → Outcome Word
+      passed b t = and_then (cond {A = Outcome (Unit {0})} b (Ok (tt, t)) (Err (fault_here TooMany t))) (λ (u : Unit {0}) t. Ok (seen t, moved t))
 
-      by : (b : Bool) → and_then (cond {A = Outcome (Unit {0})} b (Ok (tt, s)) (Err fault)) (λ (u : Unit {0}). take_word >> q)
-          ≡ and_then (and_then (cond {A = Outcome (Unit {0})} (is_present (seen s)) (Ok (tt, s)) (Err (fault_here UnknownWord s))) (λ (u : Unit {0}) t. and_then (cond {A = Outcome (Unit {0})} b (Ok (tt, t)) (Err (fault_here TooMany t))) (λ (u : Unit {0}) t. Ok (seen t, moved t)))) (λ (w : Word). q)
-      by true = ap (λ c. and_then (and_then (cond {A = Outcome (Unit {0})} c (Ok (tt, s)) (Err (fault_here UnknownWord s))) (λ (u : Unit {0}) t. Ok (seen t, moved t))) (λ (w : Word). q)) (sym there)
-      by false = ap (λ c. and_then (and_then (cond {A = Outcome (Unit {0})} c (Ok (tt, s)) (Err (fault_here UnknownWord s))) (λ (u : Unit {0}) t. and_then (cond {A = Outcome (Unit {0})} false (Ok (tt, t)) (Err (fault_here TooMany t))) (λ (u : Unit {0}) t. Ok (seen t, moved t)))) (λ (w : Word). q)) (sym there)
+      same : (b : Bool) → and_then (cond {A = Outcome (Unit {0})} b (Ok (tt, s)) (Err (fault_here TooMany s))) (λ (u : Unit {0}). take_word >> q)
+          ≡ and_then (and_then (cond {A = Outcome (Unit {0})} (is_present (seen s)) (Ok (tt, s)) (Err (fault_here UnknownWord s))) (λ (u : Unit {0}). passed b)) (λ (w : Word). q)
+      same true = ap (λ c. and_then (and_then (cond {A = Outcome (Unit {0})} c (Ok (tt, s)) (Err (fault_here UnknownWord s))) (λ (u : Unit {0}). passed true)) (λ (w : Word). q)) (sym there)
+      same false = ap (λ c. and_then (and_then (cond {A = Outcome (Unit {0})} c (Ok (tt, s)) (Err (fault_here UnknownWord s))) (λ (u : Unit {0}). passed false)) (λ (w : Word). q)) (sym there)
 
 -- a first word that is there is taken
 first-at : {A : Type 0} (q : Parser A) (part : Asked → Asked) (s : Scan) → is_present (seen s) ≡ true → Follows q part
@@ -214,20 +178,8 @@ line-agrees scope s = by (opening scope.place (seen s)) refl where
       (subst (λ o. Agrees (line_by scope o s) s (opened_by scope o) End) (sym e)
       (keyword-agrees scope keyword s (opening-there scope.place (seen s) keyword e)))
 
--- a word that passes one test and is taken, and then what follows
-need-word : {A : Type 0} (test : Word → Bool) (cause : Cause) (q : Parser A) (part : Asked → Asked) → IsSome (failed_by ((test, cause) ∷ []) []) → Follows q part
-    → Follows (need test cause >> (take_word >> q)) (λ next. One ((test, cause) ∷ []) (part next))
-unfolding need
-need-word {A} test cause q part some h s =
-    at-same (need test cause >> (take_word >> q)) (tested ((test, cause) ∷ []) (λ w. w) >>= (λ _. q)) (λ next. One ((test, cause) ∷ []) (part next)) s (by (test (seen s)))
-    (then-follows (tested ((test, cause) ∷ []) (λ w. w)) (λ _. q) (One ((test, cause) ∷ [])) part (word-follows ((test, cause) ∷ []) (λ w. w) some) (λ _. h) s) where
-      by : (b : Bool) → and_then (cond {A = Outcome (Unit {0})} b (Ok (tt, s)) (Err (fault_here cause s))) (λ (u : Unit {0}). take_word >> q)
-          ≡ and_then (and_then (cond {A = Outcome (Unit {0})} b (Ok (tt, s)) (Err (fault_here cause s))) (λ (u : Unit {0}) t. Ok (seen t, moved t))) (λ (w : Word). q)
-      by true = refl
-      by false = refl
-
 -- and so is the header
 pub header-agrees : (s : Scan) → Agrees (header_line s) s header_asked End
 unfolding header_line
-header-agrees s = need-word (same_bytes (codes "ktask")) NoHeader _ (One ((same_bytes (codes "1"), NoHeader) ∷ [])) refl
-    (need-word (same_bytes (codes "1")) NoHeader (pure (tt {0})) (λ next. next) refl (pure-follows (tt {0}))) s End
+header-agrees s = then-follows (tested (header_word (codes "ktask")) (λ _. tt {0})) _ (One (header_word (codes "ktask"))) (One (header_word (codes "1")))
+    (word-follows (header_word (codes "ktask")) (λ _. tt) refl) (λ _. word-follows (header_word (codes "1")) (λ _. tt) refl) s End

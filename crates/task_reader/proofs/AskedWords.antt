@@ -1,6 +1,5 @@
 -- Where a parser stops is the first word that is not as the table asks.
-use Rattle.task_reader.proofs.Vocabulary.{◌≡◌, ℕ, ◌+◌, Bool, true, false, not, cond, Option, Some, None, List, [], ◌∷◌, ◌++◌, map, drop, Result, Ok, Err, refl, sym, ◌∙◌, ap, subst, ◌⊎◌, inl, inr, IsSome, if◌then◌else◌, Cause, WordsLeft, Fault, fault_at, Word, Row, is_missing, Scan, start_of, first_of, seen, moved, number_behind, fault_here, Outcome, Parser, and_then, pure, need, each_along, each, ended, without_scan, whole, ArePresent, Test, Asked, End, One, Many, By, failed_by, cause_of, behind_word}
-use Rattle.task_text.specs.Scan.{◌>>=◌, ◌>>◌}
+use Rattle.task_reader.proofs.Vocabulary.{◌≡◌, ℕ, ◌+◌, Bool, true, false, not, cond, Option, Some, None, List, [], ◌∷◌, ◌++◌, map, drop, Result, Ok, Err, refl, sym, ◌∙◌, ap, subst, ◌⊎◌, inl, inr, IsSome, if◌then◌else◌, Cause, WordsLeft, Fault, fault_at, Word, Row, is_missing, Scan, start_of, first_of, seen, moved, number_behind, fault_here, Outcome, Parser, and_then, pure, need, each_along, each, ended, without_scan, whole, ArePresent, Test, Asked, End, One, Many, By, failed_by, cause_of, behind_word, tested, ◌>>=◌, tested-taken}
 
 -- ---- the first word that may not stand
 
@@ -62,11 +61,6 @@ map-follows p f part h = then-follows p (λ a. pure (f a)) part (λ next. next) 
 
 -- ---- one word
 
--- the word passes the tests, one after the other, and is taken
-abbrev pub tested : {A : Type 0} → List Test → (Word → A) → Parser A
-tested [] f = λ s. Ok (f (seen s), moved s)
-tested (test ∷ tests) f = need test.0 test.1 >> tested tests f
-
 -- how the tests of a word end
 abbrev Ends : {A : Type 0} → List Test → (Word → A) → Scan → Outcome A → Type 0
 Ends tests f s (Ok r) = (r ≡ (f (seen s), moved s)) × (failed_by tests (seen s) ≡ None)
@@ -124,18 +118,13 @@ word-follows tests f some s next = judged tests f s next s.left refl (inl some) 
 -- ---- what depends on the next word
 
 -- what is asked by the next word
-pub by-follows : {A : Type 0} (p : Parser A) (part : Word → Asked → Asked) (s : Scan) → FollowsAt p (part (seen s)) s → FollowsAt p (λ next. By (λ word. part word next)) s
-unfolding seen
-by-follows {A} p part s h next = by (p s) (h next) where
-  by : (o : Outcome A) → Agrees o s (part (seen s) next) next → Agrees o s (By (λ word. part word next)) next
-  by (Ok r) a = (a.0, verdict-by (λ word. part word next) s.word s.left ∙ a.1, a.2)
-  by (Err fault) a = (a.0, verdict-by (λ word. part word next) s.word s.left ∙ a.1)
-
--- the same of one outcome
 pub by-agrees : {A : Type 0} (o : Outcome A) (asked : Word → Asked) (s : Scan) (next : Asked) → Agrees o s (asked (seen s)) next → Agrees o s (By asked) next
 unfolding seen
 by-agrees (Ok r) asked s next a = (a.0, verdict-by asked s.word s.left ∙ a.1, a.2)
 by-agrees (Err fault) asked s next a = (a.0, verdict-by asked s.word s.left ∙ a.1)
+
+pub by-follows : {A : Type 0} (p : Parser A) (part : Word → Asked → Asked) (s : Scan) → FollowsAt p (part (seen s)) s → FollowsAt p (λ next. By (λ word. part word next)) s
+by-follows p part s h next = by-agrees (p s) (λ word. part word next) s next (h next)
 
 -- one part or another, as the next word says
 pub where-follows : {A : Type 0} (p : Parser A) (test : Word → Bool) (one other : Asked → Asked) (s : Scan)
@@ -224,24 +213,14 @@ pub refused-at : (A : Type 0) (tests : List Test) (cause : Cause) (s : Scan) →
     → FollowsAt {A = A} (λ s. Err (fault_here cause s)) (One tests) s
 refused-at A tests cause s fails some next = judged {A = Word} tests (λ w. w) s next s.left refl (inl some) (Err (fault_here cause s)) (cause, refl, fails)
 
-same-outcome : {A : Type 0} (r q : A × Scan) → ◌≡◌ {A = Outcome A} (Ok r) (Ok q) → r ≡ q
-same-outcome r q e = cc
-
--- the item that is read first is what its word stands for
-pub item-is : {A : Type 0} (tests : List Test) (f : Word → A) (s : Scan) (a : A) (t : Scan) → tested tests f s ≡ Ok (a, t) → f (seen s) ≡ a
-item-is {A} tests f s a t e = by (tested tests f s) e (ends tests f s) where
-  by : (o : Outcome A) → o ≡ Ok (a, t) → Ends tests f s o → f (seen s) ≡ a
-  by (Ok r) e h = ap (λ (r : A × Scan). r.0) (sym h.0) ∙ ap (λ (r : A × Scan). r.0) (same-outcome r (a, t) e)
-  by (Err fault) e h = cc
-
 -- at least one item
 pub some-follows : {A : Type 0} (test : Word → Bool) (item : List A → Parser A) (tests : List Word → List Test) (f : Word → A) → ItemTested item tests f → test [] ≡ false
     → IsSome (failed_by (tests []) []) → Follows (item [] >>= (λ a. each test item (a ∷ []))) (λ next. By (λ word. One (tests []) (Many test tests (word ∷ []) next)))
-some-follows test item tests f is none some s =
+some-follows {A} test item tests f is none some s =
     by-follows (item [] >>= (λ a. each test item (a ∷ []))) (λ word next. One (tests []) (Many test tests (word ∷ []) next)) s
     (then-at (item []) (λ a. each test item (a ∷ [])) (One (tests [])) (Many test tests (seen s ∷ [])) s
     (at-same (item []) (tested (tests []) f) (One (tests [])) s (is [] s) (word-follows (tests []) f some s))
-    (λ a t e. let same = item-is (tests []) f s a t (sym (is [] s) ∙ e) in
+    (λ a t e. let same = ap (λ (q : A × Scan). q.0) (tested-taken (tests []) f s (a, t) (sym (is [] s) ∙ e)).1 in
     subst (λ a. FollowsAt (each test item (a ∷ [])) (Many test tests (seen s ∷ [])) t) same (each-follows test item tests f is none (seen s ∷ []) t)))
 
 -- ---- whole rows

@@ -1,53 +1,8 @@
 -- The first name that no line gives.
-use Rattle.task_reader.proofs.Vocabulary.{◌≡◌, ◌<◌, ℕ, zero, suc, ◌+◌, add-one, Bool, true, false, Some, List, [], ◌∷◌, ◌++◌, length, slice_get, Result, Ok, Err, refl, sym, ◌∙◌, ap, subst, arith, UnknownName, Fault, fault_at, Row, rows_of, Item, Scope, first_scope, after, Spells, RowsSpellFrom, RowsSpell, Use, line_uses, Known, is_given, known, known_at, uses_known, line_known, names_known, scope_behind, UsesAt, IsFirstUnknown}
+use Rattle.task_reader.proofs.Vocabulary.{◌≡◌, ◌<◌, ℕ, ◌+◌, add-one, true, Some, List, [], ◌∷◌, ◌++◌, length, slice_get, Result, Ok, Err, refl, sym, ◌∙◌, ap, subst, arith, Fault, Row, rows_of, Item, Scope, first_scope, after, Spells, RowsSpellFrom, RowsSpell, Use, line_uses, is_given, known_at, uses_known, line_known, names_known, scope_behind, UsesAt, IsFirstUnknown}
 use Rattle.task_text.specs.Fault.{◌>>◌}
-use Rattle.task_reader.proofs.Known.{AllGiven, all-given}
-use Rattle.task_reader.proofs.UsedWords.{use-spelled, same-use}
-
--- ---- in a line
-
--- the first use of the list that is not given stands at a place
-pub record UnknownAmong (k : Known) (line n : ℕ) (uses : List Use) (fault : Fault) : Type 0 where
-  pub place : ℕ
-  pub fault_is : fault ≡ fault_at UnknownName line (n + place)
-  pub used : Use
-  pub stands : slice_get uses place ≡ Some used
-  pub unknown : is_given k used ≡ false
-  pub none_earlier : (earlier : ℕ) (other : Use) → earlier < place → slice_get uses earlier ≡ Some other → is_given k other ≡ true
-
-same-fault : (f g : Fault) → ◌≡◌ {A = Result (Unit {0}) Fault} (Err f) (Err g) → f ≡ g
-same-fault f g e = cc
-
-unknown-later : (k : Known) (line n : ℕ) (first : Use) (uses : List Use) (fault : Fault) → is_given k first ≡ true → UnknownAmong k line (n + 1) uses fault → UnknownAmong k line n (first ∷ uses) fault
-unknown-later k line n first uses fault given u =
-    let z : (n + 1) + u.place ≡ n + suc u.place = omega arith in
-    record { place = suc u.place; fault_is = u.fault_is ∙ ap (λ w. fault_at UnknownName line w) z; used = u.used; stands = u.stands; unknown = u.unknown; none_earlier = before } where
-      before : (earlier : ℕ) (other : Use) → earlier < suc u.place → slice_get (first ∷ uses) earlier ≡ Some other → is_given k other ≡ true
-      before zero other l e = ap (is_given k) (sym (same-use first other e)) ∙ given
-      before (suc earlier) other l e = u.none_earlier earlier other (omega (arith, l)) e
-
-unknown-among : (k : Known) (line n : ℕ) (uses : List Use) (fault : Fault) → uses_known k line n uses ≡ Err fault → UnknownAmong k line n uses fault
-unfolding uses_known
-unknown-among k line n [] fault e = cc
-unknown-among k line n (first ∷ uses) fault e = by (is_given k first) refl e (unknown-among k line (n + 1) uses fault) where
-  by : (b : Bool) → is_given k first ≡ b → known line n b >> uses_known k line (n + 1) uses ≡ Err fault
-      → (uses_known k line (n + 1) uses ≡ Err fault → UnknownAmong k line (n + 1) uses fault) → UnknownAmong k line n (first ∷ uses) fault
-  by true is e later = unknown-later k line n first uses fault is (later e)
-  by false is e later =
-      let z : n ≡ n + 0 = omega arith in
-      record {
-        place = 0;
-        fault_is = sym (same-fault (fault_at UnknownName line n) fault e) ∙ ap (λ w. fault_at UnknownName line w) z;
-        used = first;
-        stands = refl;
-        unknown = is;
-        none_earlier = λ earlier other l e. absurd (omega (arith, l));
-      }
-
-given-at : (k : Known) (uses : List Use) → AllGiven k uses → (place : ℕ) (used : Use) → slice_get uses place ≡ Some used → is_given k used ≡ true
-given-at k [] g place used e = cc
-given-at k (first ∷ uses) g zero used e = ap (is_given k) (sym (same-use first used e)) ∙ g.0
-given-at k (first ∷ uses) g (suc place) used e = given-at k uses g.1 place used e
+use Rattle.task_reader.proofs.FirstFailing.{Told, answer-told, unknown_word, uses-tests}
+use Rattle.task_reader.proofs.UsedWords.{use-spelled}
 
 -- ---- in lines
 
@@ -57,7 +12,7 @@ pub record UnknownIn (all : List Item) (s : Scope) (items : List Item) (fault : 
   pub item : Item
   pub ahead : List Item
   pub among : items ≡ before ++ item ∷ ahead
-  pub found : UnknownAmong (known_at all (scope_behind s before) ahead) item.line 1 (line_uses item.what) fault
+  pub found : Told (is_given (known_at all (scope_behind s before) ahead)) (unknown_word item.line) 1 (line_uses item.what) (Err fault)
   pub none_before : (first : List Item) (line : Item) (rest : List Item) → items ≡ first ++ line ∷ rest → length first < length before
       → (place : ℕ) (other : Use) → UsesAt line place other → is_given (known_at all (scope_behind s first) rest) other ≡ true
 
@@ -76,7 +31,8 @@ line-later all s item items fault ok u = record { before = item ∷ u.before; it
       let same : item ≡ line = same-head item line items rest e in
       let behind : items ≡ rest = same-rest item line items rest e in
       subst (λ rest. is_given (known_at all s rest) other ≡ true) behind
-      (given-at (known_at all s items) (line_uses item.what) (all-given (known_at all s items) item.line 1 (line_uses item.what) ok) place other
+      (subst (Told (is_given (known_at all s items)) (unknown_word item.line) 1 (line_uses item.what)) ok
+      (answer-told (is_given (known_at all s items)) (unknown_word item.line) (uses_known (known_at all s items) item.line) (uses-tests (known_at all s items) item.line) 1 (line_uses item.what)) place other
       (subst (λ (line : Item). UsesAt line place other) (sym same) at))
   none (f ∷ first) line rest e l place other at =
       let same : item ≡ f = same-head item f items (first ++ line ∷ rest) e in
@@ -95,7 +51,8 @@ unknown-in all s (item ∷ items) fault e = by (line_known (known_at all s items
     item = item;
     ahead = items;
     among = refl;
-    found = unknown-among (known_at all s items) item.line 1 (line_uses item.what) fault (is ∙ e);
+    found = subst (Told (is_given (known_at all s items)) (unknown_word item.line) 1 (line_uses item.what)) (is ∙ e)
+        (answer-told (is_given (known_at all s items)) (unknown_word item.line) (uses_known (known_at all s items) item.line) (uses-tests (known_at all s items) item.line) 1 (line_uses item.what));
     none_before = λ first line rest e l. absurd (omega (arith, l));
   }
 
@@ -131,9 +88,9 @@ pub unknown-found : (text : List ℕ) (items : List Item) (fault : Fault) → Ro
 unknown-found text items fault spelled e =
     let u = unknown-in items first_scope items fault e in
     let r = row-behind-header (rows_of text) items u.before u.item u.ahead spelled u.among in
-    let at = use-spelled r.row.words u.item.what r.spells u.found.place u.found.used u.found.stands in
+    let at = use-spelled r.row.words u.item.what r.spells u.found.0 u.found.2.found u.found.2.stands in
     record {
-      cause = ap (λ (f : Fault). f.cause) u.found.fault_is;
+      cause = ap (λ (f : Fault). f.cause) u.found.1;
       items = items;
       spelled = spelled;
       before = u.before;
@@ -142,15 +99,15 @@ unknown-found text items fault spelled e =
       among = u.among;
       row = r.row;
       row_is = r.stands;
-      line = ap (λ (f : Fault). f.line) u.found.fault_is ∙ r.line;
-      place = u.found.place;
-      word_number = ap (λ (f : Fault). f.word) u.found.fault_is ∙ omega arith;
+      line = ap (λ (f : Fault). f.line) u.found.1 ∙ r.line;
+      place = u.found.0;
+      word_number = ap (λ (f : Fault). f.word) u.found.1 ∙ omega arith;
       word = at.word;
       word_is = at.stands;
-      used = u.found.used;
-      uses = u.found.stands;
+      used = u.found.2.found;
+      uses = u.found.2.stands;
       spells = at.spells;
-      unknown = u.found.unknown;
-      none_earlier = u.found.none_earlier;
+      unknown = u.found.2.here;
+      none_earlier = u.found.2.none_before;
       none_before = u.none_before;
     }

@@ -1,8 +1,8 @@
 -- The items of a text keep the limits.
-use Rattle.task_reader.proofs.Vocabulary.{◌≡◌, ℕ, suc, ◌+◌, ◌*◌, ◌^◌, ◌<◌, ◌≤◌, Bool, true, false, cond, not, ◌==◌, List, [], ◌∷◌, ◌++◌, length, drop, refl, sym, ap, subst, append-nil, codes, arith, starts_with, prefix_len, length-take, length-drop, nat_eq, Word, Row, in_front, lines_of, code_of, words_of, with_row, rows_from, without_mark, rows_of, length-words_of, Step, Spawn, All, What, Item, Scope, first_scope, after, SpellsFuture, EachSpells, SpellsFutures, Spells, MayStand, MayName, RowsSpellFrom, RowsSpell, IsInside, kind_names, state_names, variables_from, root_names, steps_ahead, IsShortStep, IsShort, EachIsShort, Fit}
-use Rattle.std.proofs.Common.{append_assoc, length-append}
-use Rattle.task_lines.specs.declared.item.What.TheVariants as what
-use Rattle.task_reader.proofs.Stands.{no-outside, kind-behind}
+use Rattle.task_reader.proofs.Vocabulary.{◌≡◌, ℕ, suc, ◌+◌, ◌*◌, ◌^◌, ◌<◌, ◌≤◌, Bool, true, false, cond, not, ◌==◌, List, [], ◌∷◌, ◌++◌, length, drop, refl, ap, codes, arith, starts_with, prefix_len, length-take, length-drop, nat_eq, Word, Row, in_front, lines_of, code_of, words_of, with_row, rows_from, without_mark, rows_of, length-words_of, Step, Spawn, All, What, Item, Scope, first_scope, after, SpellsFuture, EachSpells, SpellsFutures, Spells, MayName, RowsSpellFrom, RowsSpell, steps_ahead, IsShortStep, IsShort, EachIsShort, Fit, length-append}
+use Rattle.task_reader.proofs.Stands.{Stand, item_at, no-names, kind-names, root-names, state-names, rows-stand}
+use Rattle.task_reader.proofs.FormedCode.{gives-code}
+use Rattle.task_reader.proofs.FormedKinds.{kind-variables}
 
 -- ---- the words of a row are at most half as many as the bytes of the text
 
@@ -68,7 +68,7 @@ list-length opening words (name ∷ names) h =
     omega (arith, spells-length h.0 (name ∷ names) h.2)
 
 state-words : (n : ℕ) (words : List Word) (name : List ℕ) (holds settled : List (List ℕ)) → 2 * length words ≤ n + 1 → n < 2 ^ 32
-    → Spells words (what.State name holds settled) → length holds + length settled < 2 ^ 31
+    → Spells words (What.State name holds settled) → length holds + length settled < 2 ^ 31
 state-words n words name holds settled few small h =
     let hs = h.0.1.0.0 in
     let ss = h.0.1.1.0.0 in
@@ -77,107 +77,43 @@ state-words n words name holds settled few small h =
 
 -- ---- what may stand keeps the limits
 
-kinds-go : (s : Scope) (line : ℕ) (w : What) (items : List Item) → MayStand s w → length s.kinds ≤ 64
-    → (length (after s w).kinds ≤ 64 → length (after s w).kinds + length (kind_names items) ≤ 64)
-    → let item : Item = record { line = line; what = w } in length s.kinds + length (kind_names (item ∷ items)) ≤ 64
-kinds-go s line (what.Kind name arguments) items m l more =
-    let e = length-append s.kinds (name ∷ []) in omega (arith, e, more (omega (arith, e, m.1)))
-kinds-go s line _ items m l more = more l
-
-kinds-fit : (s : Scope) (rows : List Row) (items : List Item) → RowsSpellFrom s rows items → length s.kinds ≤ 64 → length s.kinds + length (kind_names items) ≤ 64
-kinds-fit s [] [] h l = omega arith
-kinds-fit s (row ∷ rows) (item ∷ items) h l = kinds-go s item.line item.what items h.2 l (kinds-fit (after s item.what) rows items h.3)
-kinds-fit s [] (item ∷ items) h l = absurd h
-kinds-fit s (row ∷ rows) [] h l = absurd h
-
-roots-go : (s : Scope) (line : ℕ) (w : What) (items : List Item) → MayStand s w → length s.roots ≤ 16
-    → (length (after s w).roots ≤ 16 → length (after s w).roots + length (root_names items) ≤ 16)
-    → let item : Item = record { line = line; what = w } in length s.roots + length (root_names (item ∷ items)) ≤ 16
-roots-go s line (what.Root name kind arguments behind priority) items m l more =
-    let e = length-append s.roots (name ∷ []) in omega (arith, e, more (omega (arith, e, m.1)))
-roots-go s line _ items m l more = more l
-
-roots-fit : (s : Scope) (rows : List Row) (items : List Item) → RowsSpellFrom s rows items → length s.roots ≤ 16 → length s.roots + length (root_names items) ≤ 16
-roots-fit s [] [] h l = omega arith
-roots-fit s (row ∷ rows) (item ∷ items) h l = roots-go s item.line item.what items h.2 l (roots-fit (after s item.what) rows items h.3)
-roots-fit s [] (item ∷ items) h l = absurd h
-roots-fit s (row ∷ rows) [] h l = absurd h
-
-variables-go : (s : Scope) (line : ℕ) (w : What) (items : List Item) → MayStand s w → length s.variables ≤ 255
-    → (length (after s w).variables ≤ 255 → length ((after s w).variables ++ variables_from items) ≤ 255)
-    → let item : Item = record { line = line; what = w } in length (s.variables ++ variables_from (item ∷ items)) ≤ 255
-variables-go s line (what.Var variables) items m l more =
-    subst (λ vs. length vs ≤ 255) (append_assoc s.variables variables (variables_from items)) (more m.2)
-variables-go s line _ items m l more = subst (λ vs. length vs ≤ 255) (sym (append-nil s.variables)) l
-
-variables-fit : (s : Scope) (rows : List Row) (items : List Item) → RowsSpellFrom s rows items → length s.variables ≤ 255 → length (s.variables ++ variables_from items) ≤ 255
-variables-fit s [] [] h l = subst (λ vs. length vs ≤ 255) (sym (append-nil s.variables)) l
-variables-fit s (row ∷ rows) (item ∷ items) h l = variables-go s item.line item.what items h.2 l (variables-fit (after s item.what) rows items h.3)
-variables-fit s [] (item ∷ items) h l = absurd h
-variables-fit s (row ∷ rows) [] h l = absurd h
-
-states-go : (s : Scope) (line : ℕ) (w : What) (items : List Item) → MayStand s w → IsInside s.place → length s.states ≤ 32
-    → (IsInside (after s w).place → length (after s w).states ≤ 32 → length (after s w).states + length (state_names items) ≤ 32)
-    → let item : Item = record { line = line; what = w } in length s.states + length (state_names (item ∷ items)) ≤ 32
-states-go s line (what.Kind name arguments) items m k l more = absurd (no-outside s.place k m.0)
-states-go s line (what.Root name kind arguments behind priority) items m k l more = absurd (no-outside s.place k m.0)
-states-go s line (what.Var variables) items m k l more = more k l
-states-go s line (what.State name holds settled) items m k l more =
-    let e = length-append s.states (name ∷ []) in omega (arith, e, more tt (omega (arith, e, m.1)))
-states-go s line (what.Step step) items m k l more = more (kind-behind step) l
-states-go s line what.End items m k l more = omega (arith, l)
-
-states-fit : (s : Scope) (rows : List Row) (items : List Item) → RowsSpellFrom s rows items → IsInside s.place → length s.states ≤ 32
-    → length s.states + length (state_names items) ≤ 32
-states-fit s [] [] h k l = omega arith
-states-fit s (row ∷ rows) (item ∷ items) h k l = states-go s item.line item.what items h.2 k l (states-fit (after s item.what) rows items h.3)
-states-fit s [] (item ∷ items) h k l = absurd h
-states-fit s (row ∷ rows) [] h k l = absurd h
-
-steps-go : (s : Scope) (line : ℕ) (w : What) (items : List Item) → MayStand s w → s.steps ≤ 64
-    → ((after s w).steps ≤ 64 → (after s w).steps + steps_ahead items ≤ 64)
-    → let item : Item = record { line = line; what = w } in s.steps + steps_ahead (item ∷ items) ≤ 64
-steps-go s line (what.Step step) items m l more = let a : s.steps + 1 ≤ 64 = omega (arith, m.1) in omega (arith, more a)
-steps-go s line _ items m l more = omega (arith, l)
-
-steps-fit : (s : Scope) (rows : List Row) (items : List Item) → RowsSpellFrom s rows items → s.steps ≤ 64 → s.steps + steps_ahead items ≤ 64
-steps-fit s [] [] h l = omega arith
-steps-fit s (row ∷ rows) (item ∷ items) h l = steps-go s item.line item.what items h.2 l (steps-fit (after s item.what) rows items h.3)
-steps-fit s [] (item ∷ items) h l = absurd h
-steps-fit s (row ∷ rows) [] h l = absurd h
-
 step-short : (s : Scope) (step : Step) → MayName s step → IsShortStep step
 step-short s (Spawn to kind arguments behind priority retry) m = m
 step-short s (All to members priority retry) m = m
 step-short s _ m = tt
 
-short : (n : ℕ) (s : Scope) (words : List Word) (w : What) (rows : List Row) (items : List Item) → n < 2 ^ 32 → 2 * length words ≤ n + 1
-    → Spells words w → MayStand s w → RowsSpellFrom (after s w) rows items → IsShort w items
-short n s words (what.Kind name arguments) rows items small few spelled m h =
-    let there : Scope = after s (what.Kind name arguments) in
-    let count : 0 + length (state_names items) ≤ 32 = states-fit there rows items h tt (omega arith) in
-    (m.4, variables-fit there rows items h (omega (arith, m.4)), omega (arith, count))
-short n s words (what.State name holds settled) rows items small few spelled m h =
-    let there : Scope = after s (what.State name holds settled) in
-    let count : 0 + steps_ahead items ≤ 64 = steps-fit there rows items h (omega arith) in
+short : (n : ℕ) (s : Scope) (words : List Word) (line : ℕ) (w : What) (items : List Item) → n < 2 ^ 32 → 2 * length words ≤ n + 1
+    → Spells words w → Stand s (item_at line w ∷ items) → IsShort w items
+short n s words line (What.Kind name arguments) items small few spelled stand = (
+  stand.1.4,
+  (kind-variables s line name arguments items stand).fit,
+  (state-names items (after s (What.Kind name arguments)) tt stand.2 (no-names 32)).fit,
+)
+short n s words line (What.State name holds settled) items small few spelled stand =
+    let count : 0 + steps_ahead items ≤ 64 = (gives-code (record { kinds = []; variables = []; states = [] }) items (after s (What.State name holds settled)) 0 stand.2).fits (omega arith) in
     (omega (arith, count), state-words n words name holds settled few small spelled)
-short n s words (what.Step step) rows items small few spelled m h = step-short s step m.2
-short n s words (what.Root name kind arguments behind priority) rows items small few spelled m h = m.3
-short n s words _ rows items small few spelled m h = tt
+short n s words line (What.Step step) items small few spelled stand = step-short s step stand.1.2
+short n s words line (What.Root name kind arguments behind priority) items small few spelled stand = stand.1.3
+short n s words line _ items small few spelled stand = tt
 
 each-short : (n : ℕ) (s : Scope) (rows : List Row) (items : List Item) → n < 2 ^ 32 → RowsWithin n rows → RowsSpellFrom s rows items → EachIsShort items
 each-short n s [] [] small few h = tt
-each-short n s (row ∷ rows) (item ∷ items) small few h =
-    (short n s row.words item.what rows items small few.0 h.1 h.2 h.3, each-short n (after s item.what) rows items small few.1 h.3)
+each-short n s (row ∷ rows) (item ∷ items) small few h = (
+  short n s row.words item.line item.what items small few.0 h.1 (rows-stand s (row ∷ rows) (item ∷ items) h),
+  each-short n (after s item.what) rows items small few.1 h.3,
+)
 each-short n s [] (item ∷ items) small few h = absurd h
 each-short n s (row ∷ rows) [] small few h = absurd h
 
 rows-fit : (n : ℕ) (rows : List Row) (items : List Item) → n < 2 ^ 32 → RowsWithin n rows → RowsSpell rows items → Fit items
 rows-fit n [] items small few h = absurd h
 rows-fit n (row ∷ rows) items small few h =
-    let kinds : 0 + length (kind_names items) ≤ 64 = kinds-fit first_scope rows items h.1 (omega arith) in
-    let roots : 0 + length (root_names items) ≤ 16 = roots-fit first_scope rows items h.1 (omega arith) in
-    record { kinds = omega (arith, kinds); roots = omega (arith, roots); each = each-short n first_scope rows items small few.1 h.1 }
+    let stand = rows-stand first_scope rows items h.1 in
+    record {
+      kinds = (kind-names items first_scope stand (no-names 64)).fit;
+      roots = (root-names items first_scope stand (no-names 16)).fit;
+      each = each-short n first_scope rows items small few.1 h.1;
+    }
 
 pub items_fit : (text : List ℕ) (items : List Item) → length text < 2 ^ 32 → RowsSpell (rows_of text) items → Fit items
 items_fit text items small h = rows-fit (length text) (rows_of text) items small (text-within text) h

@@ -1,6 +1,6 @@
 -- A text that spells a program spells a well-formed one.
-use Rattle.task_reader.proofs.Vocabulary.{◌≡◌, ℕ, ◌+◌, List, [], ◌∷◌, Ok, map, length, refl, sym, ◌∙◌, ap, subst, arith, length-map, AllDiffer, IsFormedRoot, IsWellFormed, Kind, Root, Program, Row, lines_of, without_mark, rows_of, Item, Scope, first_scope, after, RowsSpellFrom, RowsSpell, kind_names, names_known, kinds_from, roots_from, program_of, Spelled, root_names}
-use Rattle.task_reader.proofs.Stands.{Stand, AreNames, no-names, kind-names, root-names, names-of-kinds, names-of-roots}
+use Rattle.task_reader.proofs.Vocabulary.{◌≡◌, ℕ, ◌+◌, List, [], ◌∷◌, Ok, map, length, refl, sym, ◌∙◌, ap, subst, arith, length-map, AllDiffer, IsFormedRoot, IsWellFormed, Kind, Root, Program, Row, lines_of, without_mark, rows_of, Item, first_scope, RowsSpell, kind_names, names_known, kinds_from, roots_from, program_of, Spelled, root_names}
+use Rattle.task_reader.proofs.Stands.{Stand, AreNames, no-names, kind-names, root-names, names-of-kinds, names-of-roots, rows-stand}
 use Rattle.task_reader.proofs.FormedKinds.{kinds-formed}
 use Rattle.task_reader.proofs.FormedRoots.{roots-formed}
 use Rattle.task_reader.proofs.Lines.{RowsRise, ItemsRise, rows-rise, items-rise, lines-differ}
@@ -37,12 +37,6 @@ items-formed items n stand rise known = record {
 
   root_count : length (roots_from (kind_names items) [] items) ≡ length (root_names items)
   root_count = sym (length-map (roots_from (kind_names items) [] items) (λ (r : Root). r.name)) ∙ ap length same_roots
-
-pub rows-stand : (s : Scope) (rows : List Row) (items : List Item) → RowsSpellFrom s rows items → Stand s items
-rows-stand s [] [] h = h
-rows-stand s (row ∷ rows) [] h = absurd h
-rows-stand s [] (item ∷ items) h = absurd h
-rows-stand s (row ∷ rows) (item ∷ items) h = ((row.words, h.1), h.2, rows-stand (after s item.what) rows items h.3)
 
 text-formed : (rows : List Row) (n : ℕ) (items : List Item) → RowsRise n rows → RowsSpell rows items → names_known items first_scope items ≡ Ok tt → IsWellFormed (program_of items)
 text-formed [] n items rise h known = absurd h

@@ -1,8 +1,5 @@
 -- The roots of a program are well formed where their names are known.
-use Rattle.task_reader.proofs.Vocabulary.{◌≡◌, ℕ, zero, suc, ◌+◌, ◌<◌, true, Option, Some, None, List, [], ◌∷◌, ◌++◌, Ok, map, length, slice_get, sym, subst, arith, IfSome, option_map, length-map, Each, IsFormedRootArgument, IsFormedRoot, Root, Program, Priority, each-map, each-nil, each-cons, Word, is_among, RootTerm, What, Item, Scope, after, EachSpells, SpellsRootTerm, UsesRoot, root_term_use, behind_uses, root_uses, Known, kind_names, is_given, known_at, line_known, names_known, place_of, root_argument_of, root_of, roots_from}
-use Rattle.std.proofs.lemmas.List.{length-append}
-use Rattle.task_lines.specs.declared.item.RootTerm.TheVariants as root_term
-use Rattle.task_lines.specs.declared.item.What.TheVariants as what
+use Rattle.task_reader.proofs.Vocabulary.{◌≡◌, ℕ, zero, suc, ◌+◌, ◌<◌, true, Option, Some, None, List, [], ◌∷◌, ◌++◌, Ok, map, length, slice_get, sym, subst, arith, IfSome, option_map, length-map, Each, IsFormedRootArgument, IsFormedRoot, Root, Program, Priority, each-map, each-nil, each-cons, Word, is_among, RootTerm, What, Item, Scope, after, EachSpells, SpellsRootTerm, UsesRoot, root_term_use, behind_uses, root_uses, Known, kind_names, is_given, known_at, line_known, names_known, place_of, root_argument_of, root_of, roots_from, length-append, some-same}
 use Rattle.task_reader.proofs.Places.{place-within}
 use Rattle.task_reader.proofs.Known.{AllGiven, both-known, all-given, given-parts}
 use Rattle.task_reader.proofs.FormedSteps.{number-fits}
@@ -10,8 +7,8 @@ use Rattle.task_reader.proofs.Stands.{Stand, item_at}
 
 argument-formed : (k : Known) (w : Word) (a : RootTerm) → SpellsRootTerm w a → is_given k (root_term_use a) ≡ true
     → IsFormedRootArgument (length k.roots) (root_argument_of k.roots a)
-argument-formed k w (root_term.Number n) s e = number-fits w n s
-argument-formed k w (root_term.Root name) s e = place-within k.roots name e
+argument-formed k w (RootTerm.Number n) s e = number-fits w n s
+argument-formed k w (RootTerm.Root name) s e = place-within k.roots name e
 
 arguments-formed : (k : Known) (ws : List Word) (arguments : List RootTerm) → EachSpells SpellsRootTerm ws arguments
     → AllGiven k (map root_term_use arguments) → Each arguments (λ a. IsFormedRootArgument (length k.roots) (root_argument_of k.roots a))
@@ -25,17 +22,14 @@ behind-formed : (k : Known) (behind : Option (List ℕ)) → AllGiven k (behind_
 behind-formed k None g = tt
 behind-formed k (Some name) g = place-within k.roots name g.1.0
 
-same-root : (a b : Root) → Some a ≡ Some b → a ≡ b
-same-root a b e = cc
-
 abbrev RootsFormed : Program → List (List ℕ) → List Item → List Item → Type 0
 RootsFormed p kinds all items = (s : Scope) → Stand s items → names_known all s items ≡ Ok tt
     → (i : ℕ) (root : Root) → slice_get (roots_from kinds s.roots items) i ≡ Some root → IsFormedRoot p (length s.roots + i) root
 
 root-formed : (p : Program) (kinds : List (List ℕ)) → length p.kinds ≡ length kinds → (all : List Item) → kind_names all ≡ kinds
     → (s : Scope) (line : ℕ) (name kind : List ℕ) (arguments : List RootTerm) (behind : Option (List ℕ)) (priority : Priority) (items : List Item)
-    → Stand s (item_at line (what.Root name kind arguments behind priority) ∷ items)
-    → line_known (known_at all s items) line (what.Root name kind arguments behind priority) ≡ Ok tt
+    → Stand s (item_at line (What.Root name kind arguments behind priority) ∷ items)
+    → line_known (known_at all s items) line (What.Root name kind arguments behind priority) ≡ Ok tt
     → IsFormedRoot p (length s.roots) (root_of kinds s.roots line name kind arguments behind priority)
 unfolding root_of
 root-formed p kinds count all names s line name kind arguments behind priority items stand looked_up = record {
@@ -59,15 +53,15 @@ root-formed p kinds count all names s line name kind arguments behind priority i
 roots-formed-step : (p : Program) (kinds : List (List ℕ)) → length p.kinds ≡ length kinds → (all : List Item) → kind_names all ≡ kinds
     → (line : ℕ) (w : What) (items : List Item) → RootsFormed p kinds all items → RootsFormed p kinds all (item_at line w ∷ items)
 unfolding roots_from names_known
-roots-formed-step p kinds count all names line (what.Root name kind arguments behind priority) items further s stand known zero root e =
-    let parts = both-known (line_known (known_at all s items) line (what.Root name kind arguments behind priority)) (names_known all (after s (what.Root name kind arguments behind priority)) items) known in
+roots-formed-step p kinds count all names line (What.Root name kind arguments behind priority) items further s stand known zero root e =
+    let parts = both-known (line_known (known_at all s items) line (What.Root name kind arguments behind priority)) (names_known all (after s (What.Root name kind arguments behind priority)) items) known in
     let z : length s.roots ≡ length s.roots + 0 = omega arith in
-    subst (λ n. IsFormedRoot p n root) z (subst (IsFormedRoot p (length s.roots)) (same-root (root_of kinds s.roots line name kind arguments behind priority) root e)
+    subst (λ n. IsFormedRoot p n root) z (subst (IsFormedRoot p (length s.roots)) (some-same (root_of kinds s.roots line name kind arguments behind priority) root e)
     (root-formed p kinds count all names s line name kind arguments behind priority items stand parts.0))
-roots-formed-step p kinds count all names line (what.Root name kind arguments behind priority) items further s stand known (suc i) root e =
-    let parts = both-known (line_known (known_at all s items) line (what.Root name kind arguments behind priority)) (names_known all (after s (what.Root name kind arguments behind priority)) items) known in
+roots-formed-step p kinds count all names line (What.Root name kind arguments behind priority) items further s stand known (suc i) root e =
+    let parts = both-known (line_known (known_at all s items) line (What.Root name kind arguments behind priority)) (names_known all (after s (What.Root name kind arguments behind priority)) items) known in
     let z : length (s.roots ++ name ∷ []) + i ≡ length s.roots + suc i = omega (arith, length-append s.roots (name ∷ [])) in
-    subst (λ n. IsFormedRoot p n root) z (further (after s (what.Root name kind arguments behind priority)) stand.2 parts.1 i root e)
+    subst (λ n. IsFormedRoot p n root) z (further (after s (What.Root name kind arguments behind priority)) stand.2 parts.1 i root e)
 roots-formed-step p kinds count all names line w items further s stand known i root e =
     let parts = both-known (line_known (known_at all s items) line w) (names_known all (after s w) items) known in
     further (after s w) stand.2 parts.1 i root e

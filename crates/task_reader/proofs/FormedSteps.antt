@@ -1,8 +1,5 @@
 -- An instruction is well formed where its names are known.
-use Rattle.task_reader.proofs.Vocabulary.{◌≡◌, ◌≢◌, ℕ, ◌<◌, ◌≤◌, ◌^◌, true, ◌&&◌, Option, Some, None, List, [], ◌∷◌, Ok, map, length, refl, sym, subst, arith, IfSome, nat_lt, option_map, list_all, digits_value, ltb-true, length-map, is_between, is_digit, Each, IsNumberAt, IsFutureAt, IsFormedOperand, IsFormedArgument, IsFormedInstr, IsLabelAhead, Number, Future, State, Kind, Program, both, each-map, each-nil, each-cons, Word, is_among, Term, Passed, Step, Set, Math, If, Goto, Label, Cell, Rows, Spawn, All, Copy, Drop, Get, Again, Done, Scope, has_variable, SpellsNumber, SpellsTerm, SpellsPassed, Spells, EachSpells, MayName, UsesFuture, term_use, passed_use, behind_uses, step_uses, Known, is_given, uses_known, Positions, place_of, number_place, future_place, operand_of, argument_of, instr_of}
-use Rattle.task_lines.specs.declared.step.Term.TheVariants as term
-use Rattle.task_lines.specs.declared.step.Passed.TheVariants as passed
-use Rattle.task_lines.specs.declared.item.What.TheVariants as what
+use Rattle.task_reader.proofs.Vocabulary.{What, ◌≡◌, ◌≢◌, ℕ, ◌<◌, ◌≤◌, ◌^◌, true, ◌&&◌, Option, Some, None, List, [], ◌∷◌, Ok, map, length, refl, sym, subst, arith, IfSome, nat_lt, option_map, list_all, digits_value, ltb-true, length-map, is_between, is_digit, Each, IsNumberAt, IsFutureAt, IsFormedOperand, IsFormedArgument, IsFormedInstr, IsLabelAhead, Number, Future, State, Kind, Program, both, each-map, each-nil, each-cons, Word, is_among, Term, Passed, Step, Set, Math, If, Goto, Label, Cell, Rows, Spawn, All, Copy, Drop, Get, Again, Done, Scope, has_variable, SpellsNumber, SpellsTerm, SpellsPassed, Spells, EachSpells, MayName, UsesFuture, term_use, passed_use, behind_uses, step_uses, Known, is_given, uses_known, Positions, place_of, number_place, future_place, operand_of, argument_of, instr_of}
 use Rattle.task_reader.proofs.Places.{place-within, number-at, future-at}
 use Rattle.task_reader.proofs.Known.{AllGiven, all-given, given-parts, each-given}
 
@@ -41,12 +38,12 @@ module _ (positions : Positions) (p : Program) (kind : Kind) (for : IsFor positi
   k = known_for positions labels roots
 
   term-formed : (w : Word) (t : Term) → SpellsTerm w t → is_given k (term_use t) ≡ true → IsFormedOperand kind (operand_of positions t)
-  term-formed w (term.Literal n) s e = number-fits w n s
-  term-formed w (term.Variable name) s e = number-formed positions p kind for name e
+  term-formed w (Term.Literal n) s e = number-fits w n s
+  term-formed w (Term.Variable name) s e = number-formed positions p kind for name e
 
   passed-formed : (w : Word) (a : Passed) → SpellsPassed w a → is_given k (passed_use a) ≡ true → IsFormedArgument kind (argument_of positions a)
-  passed-formed w (passed.Number t) s e = term-formed w t s e
-  passed-formed w (passed.Future name) s e = future-formed positions p kind for name e
+  passed-formed w (Passed.Number t) s e = term-formed w t s e
+  passed-formed w (Passed.Future name) s e = future-formed positions p kind for name e
 
   arguments-formed : (ws : List Word) (arguments : List Passed) → EachSpells SpellsPassed ws arguments → AllGiven k (map passed_use arguments)
       → Each arguments (λ a. IsFormedArgument kind (argument_of positions a))
@@ -70,13 +67,13 @@ some-members (x ∷ xs) n = omega arith
 
 -- an instruction is well formed where its names are known
 pub step-formed : (positions : Positions) (p : Program) (kind : Kind) → IsFor positions p kind → (state : State) (at : ℕ) (labels roots : List (List ℕ)) (label_place : List ℕ → ℕ)
-    → LabelsAhead state at labels label_place → (s : Scope) (line : ℕ) (words : List Word) (step : Step) → Spells words (what.Step step) → MayName s step
+    → LabelsAhead state at labels label_place → (s : Scope) (line : ℕ) (words : List Word) (step : Step) → Spells words (What.Step step) → MayName s step
     → uses_known (known_for positions labels roots) line 1 (step_uses step) ≡ Ok tt → IsFormedInstr p kind state at (instr_of positions label_place step)
 unfolding instr_of
 step-formed positions p kind for state at labels roots label_place ahead s line words step spelled may e =
     given step spelled may (all-given (known_for positions labels roots) line 1 (step_uses step) e)
   where
-    given : (step : Step) → Spells words (what.Step step) → MayName s step → AllGiven (known_for positions labels roots) (step_uses step) → IsFormedInstr p kind state at (instr_of positions label_place step)
+    given : (step : Step) → Spells words (What.Step step) → MayName s step → AllGiven (known_for positions labels roots) (step_uses step) → IsFormedInstr p kind state at (instr_of positions label_place step)
     given (Set to value) spelled may g = (number-formed positions p kind for to g.1.0, term-formed positions p kind for labels roots spelled.0.1.0.0 value spelled.0.1.0.1 g.1.1.0)
     given (Math operation to left right) spelled may g = (
       number-formed positions p kind for to g.1.0,

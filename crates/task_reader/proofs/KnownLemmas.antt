@@ -1,9 +1,6 @@
 -- The first unknown name of a list is where its look-up stops.
 use Rattle.task_reader.proofs.Vocabulary.{◌≡◌, ◌≢◌, ℕ, suc, ◌+◌, Bool, true, false, cond, not, nat_lt, List, [], ◌∷◌, ◌++◌, map, length, Some, None, Result, Ok, Err, refl, ap, sym, ◌∙◌, arith, position, position_or_len, nat_tests, Fault, UnknownName, fault_at, Future, has_variable, Term, Passed, RootTerm, Use, Plain, UsesFuture, term_use, passed_use, root_term_use, futures_uses, Known, is_given, known, uses_known, WordPlace, behind, unknown_at, is_known_term, is_known_passed, is_known_root_term}
 use Rattle.task_text.specs.Fault.{◌>>◌}
-use Rattle.task_lines.specs.declared.step.Term.TheVariants as term
-use Rattle.task_lines.specs.declared.step.Passed.TheVariants as passed
-use Rattle.task_lines.specs.declared.item.RootTerm.TheVariants as root_term
 
 -- what a look-up of a list answers, where so many names are known in front
 abbrev stops_at : ℕ → ℕ → ℕ → ℕ → Result (Unit {0}) Fault
@@ -46,12 +43,12 @@ futures_known-is k line word names = uses_known-is k line UsesFuture (has_variab
 
 -- an operand is given where its variable is
 pub term_known-is : (k : Known) (t : Term) → is_given k (term_use t) ≡ is_known_term k.variables t
-term_known-is k (term.Literal n) = refl
-term_known-is k (term.Variable name) = refl
+term_known-is k (Term.Literal n) = refl
+term_known-is k (Term.Variable name) = refl
 
 passed_known-is : (k : Known) (p : Passed) → is_given k (passed_use p) ≡ is_known_passed k.variables p
-passed_known-is k (passed.Number t) = term_known-is k t
-passed_known-is k (passed.Future name) = refl
+passed_known-is k (Passed.Number t) = term_known-is k t
+passed_known-is k (Passed.Future name) = refl
 
 -- the arguments of a spawn are looked up in the variables
 pub arguments_known-is : (k : Known) (line word : ℕ) (arguments : List Passed)
@@ -59,8 +56,8 @@ pub arguments_known-is : (k : Known) (line word : ℕ) (arguments : List Passed)
 arguments_known-is k line word arguments = uses_known-is k line passed_use (is_known_passed k.variables) (passed_known-is k) word arguments
 
 root_term_known-is : (k : Known) (t : RootTerm) → is_given k (root_term_use t) ≡ is_known_root_term k.roots t
-root_term_known-is k (root_term.Number n) = refl
-root_term_known-is k (root_term.Root name) = refl
+root_term_known-is k (RootTerm.Number n) = refl
+root_term_known-is k (RootTerm.Root name) = refl
 
 -- the arguments of a root are looked up in the roots
 pub root_terms_known-is : (k : Known) (line word : ℕ) (arguments : List RootTerm)

@@ -20,6 +20,7 @@ pub mod Read
 pub mod AskedWords
 pub mod AskedLines
 pub mod AskedPlaces
+pub mod FirstFailing
 pub mod FirstFaults
 pub mod UsedWords
 pub mod FirstUnknown

@@ -1,6 +1,5 @@
 -- No two parts of a program stand at one line.
-use Rattle.task_reader.proofs.Vocabulary.{◌≡◌, ℕ, zero, suc, ◌+◌, ◌<◌, ◌≤◌, Bool, true, false, cond, nat_eq, Some, List, [], ◌∷◌, ◌++◌, map, slice_get, refl, sym, ap, subst, arith, eqb-true, eq-eqb, flat_map, AllDiffer, lines_of_state, lines_of_kind, Root, Line, differ-nil, differ-cons, Word, Row, words_of, code_of, with_row, rows_from, What, Item, Scope, after, RowsSpellFrom, IsInside, state_names, Positions, code_from, states_from, variables_from, kind_of, kinds_from, root_of, roots_from}
-use Rattle.task_lines.specs.declared.item.What.TheVariants as what
+use Rattle.task_reader.proofs.Vocabulary.{◌≡◌, ℕ, zero, suc, ◌+◌, ◌<◌, ◌≤◌, Bool, true, false, cond, nat_eq, Some, List, [], ◌∷◌, ◌++◌, map, slice_get, refl, sym, ap, subst, arith, eqb-true, eq-eqb, flat_map, AllDiffer, lines_of_state, lines_of_kind, Root, Line, differ-nil, differ-cons, Word, Row, words_of, code_of, with_row, rows_from, What, Item, Scope, after, RowsSpellFrom, IsInside, state_names, Positions, code_from, states_from, variables_from, kind_of, kinds_from, root_of, roots_from, some-same}
 use Rattle.task_reader.proofs.Stands.{Stand, item_at, no-outside, kind-behind}
 
 -- ---- how often a number stands in a list
@@ -13,15 +12,12 @@ times-append : (x : ℕ) (xs ys : List ℕ) → times x (xs ++ ys) ≡ times x x
 times-append x [] ys = omega arith
 times-append x (y ∷ xs) ys = omega (arith, times-append x xs ys)
 
-same-number : (x y : ℕ) → Some x ≡ Some y → x ≡ y
-same-number x y e = cc
-
 times-here : (x : ℕ) (ys : List ℕ) → times x (x ∷ ys) ≡ 1 + times x ys
 times-here x ys = ap (λ b. cond b 1 0 + times x ys) (eq-eqb x x refl)
 
 times-at : (xs : List ℕ) (j x : ℕ) → slice_get xs j ≡ Some x → 1 ≤ times x xs
 times-at [] j x e = cc
-times-at (y ∷ ys) zero x e = let s : y ≡ x = same-number y x e in
+times-at (y ∷ ys) zero x e = let s : y ≡ x = some-same y x e in
     omega (arith, times-here x ys, ap (λ v. times x (v ∷ ys)) s)
 times-at (y ∷ ys) (suc j) x e = omega (arith, times-at ys j x e)
 
@@ -100,39 +96,39 @@ Counted x kinds items = (s : Scope) → Stand s items → LinesCount x kinds s i
 
 counted-step : (x : ℕ) (kinds : List (List ℕ)) (line : ℕ) (w : What) (items : List Item) → Counted x kinds items → Counted x kinds (item_at line w ∷ items)
 unfolding code_from states_from kind_of kinds_from root_of roots_from
-counted-step x kinds line (what.Kind name arguments) items further s stand =
+counted-step x kinds line (What.Kind name arguments) items further s stand =
     let positions : Positions = record { kinds = kinds; variables = arguments ++ variables_from items; states = state_names items } in
-    let later = further (after s (what.Kind name arguments)) stand.2 in
+    let later = further (after s (What.Kind name arguments)) stand.2 in
     record {
       outside = λ earlier. omega (arith, times-append x (state_lines positions items) (kind_lines kinds items), later.in_kind tt positions 0 earlier);
       in_kind = λ in_kind positions at earlier. absurd (no-outside s.place in_kind stand.1.0);
     }
-counted-step x kinds line (what.Var more) items further s stand =
-    let later = further (after s (what.Var more)) stand.2 in
+counted-step x kinds line (What.Var more) items further s stand =
+    let later = further (after s (What.Var more)) stand.2 in
     record {
       outside = λ earlier. omega (arith, later.outside earlier);
       in_kind = λ in_kind positions at earlier. omega (arith, later.in_kind in_kind positions 0 earlier);
     }
-counted-step x kinds line (what.State name holds settled) items further s stand =
-    let later = further (after s (what.State name holds settled)) stand.2 in
+counted-step x kinds line (What.State name holds settled) items further s stand =
+    let later = further (after s (What.State name holds settled)) stand.2 in
     record {
       outside = λ earlier. omega (arith, later.outside earlier);
       in_kind = λ in_kind positions at earlier. omega (arith, times-append x (code_lines positions 0 items) (state_lines positions items), later.in_kind tt positions 0 earlier);
     }
-counted-step x kinds line (what.Step step) items further s stand =
-    let later = further (after s (what.Step step)) stand.2 in
+counted-step x kinds line (What.Step step) items further s stand =
+    let later = further (after s (What.Step step)) stand.2 in
     record {
       outside = λ earlier. omega (arith, later.outside earlier);
       in_kind = λ in_kind positions at earlier. omega (arith, later.in_kind (kind-behind step) positions (at + 1) earlier);
     }
-counted-step x kinds line what.End items further s stand =
-    let later = further (after s what.End) stand.2 in
+counted-step x kinds line What.End items further s stand =
+    let later = further (after s What.End) stand.2 in
     record {
       outside = λ earlier. omega (arith, later.outside earlier);
       in_kind = λ in_kind positions at earlier. omega (arith, later.outside earlier);
     }
-counted-step x kinds line (what.Root name kind arguments behind priority) items further s stand =
-    let later = further (after s (what.Root name kind arguments behind priority)) stand.2 in
+counted-step x kinds line (What.Root name kind arguments behind priority) items further s stand =
+    let later = further (after s (What.Root name kind arguments behind priority)) stand.2 in
     record {
       outside = λ earlier. omega (arith, later.outside (earlier ++ name ∷ []));
       in_kind = λ in_kind positions at earlier. absurd (no-outside s.place in_kind stand.1.0);

@@ -1,5 +1,5 @@
 -- The place of a name that is given.
-use Rattle.task_reader.proofs.Vocabulary.{◌≡◌, ℕ, ◌+◌, ◌<◌, add-one, Bool, true, false, ◌||◌, cond, Some, List, [], ◌∷◌, length, slice_get, refl, sym, ◌∙◌, ap, slice_get_within, list_any, same_text, same_bytes, IsNumberAt, IsFutureAt, Sort, Number, Future, Variable, Kind, both, is_among, same_sort, is_variable, has_variable, place_where, place_of, number_place, future_place}
+use Rattle.task_reader.proofs.Vocabulary.{◌≡◌, ℕ, ◌+◌, ◌<◌, add-one, Bool, true, false, ◌||◌, cond, Some, List, [], ◌∷◌, length, slice_get, refl, sym, ◌∙◌, ap, slice_get_within, list_any, same_text, same_bytes, IsNumberAt, IsFutureAt, Sort, Number, Future, Variable, Kind, both, is_among, same_sort, is_variable, has_variable, place_where, place_of, number_place, future_place, some-same}
 
 place-step : {A : Type 0} (test : A → Bool) (a : A) (more : List A) (b : Bool) → test a ≡ b
     → (list_any test more ≡ true → (x : A) × (slice_get more (place_where test more) ≡ Some x) × (test x ≡ true))
@@ -51,6 +51,4 @@ pub future-place-same : (variables : List Variable) (a b : List ℕ) → has_var
 future-place-same variables a b g h e = let v = variable-place Future a variables g in
     let w = variable-place Future b variables h in
     let s : v.variable ≡ w.variable = some-same v.variable w.variable (sym v.stands ∙ (ap (λ i. slice_get variables i) e ∙ w.stands)) in
-    v.name_is ∙ (ap (λ (x : Variable). x.name) s ∙ sym w.name_is) where
-      some-same : (x y : Variable) → Some x ≡ Some y → x ≡ y
-      some-same x y e = cc
+    v.name_is ∙ (ap (λ (x : Variable). x.name) s ∙ sym w.name_is)

@@ -1,16 +1,16 @@
 -- What the reading of a text means for the answer.
-use Rattle.task_reader.proofs.Vocabulary.{◌≡◌, ℕ, ◌<◌, ◌^◌, List, length, Result, Ok, Err, refl, sym, ◌∙◌, ap, Program, Fault, TextError, Gives, number_of, Item, items_of, items_of-spelled, Fit, program_in, GivesProgram, Spelled, Answers, error_of, IsFirstFault, TellsFirst, Tells}
-use Rattle.task_text.specs.declared.fault.TextError.TheVariants as text_error
+use Rattle.task_reader.proofs.Vocabulary.{◌≡◌, ℕ, ◌<◌, ◌^◌, List, length, Result, Ok, Err, refl, sym, ◌∙◌, ap, Program, Fault, TextError, Gives, number_of, Item, items_of, Fit, program_in, GivesProgram, Spelled, Answers, error_of, IsFirstFault, TellsFirst, Tells}
 use Rattle.task_reader.proofs.Fitting.{items_fit}
+use Rattle.task_reader.proofs.FirstFaults.{items-answer}
 use Rattle.task_reader.proofs.FaultsTold.{program-first, first-told}
 use Rattle.task_reader.proofs.Read.{program_in-spelled, program_in-formed, spelled-accepts}
 
 pub items_read : (text : List ℕ) (items : List Item) → length text < 2 ^ 32 → items_of text ≡ Ok items → Fit items
-items_read text items small e = items_fit text items small (items_of-spelled text items e)
+items_read text items small e = items_fit text items small (items-answer text (Ok items) e)
 
 pub error-exact : (text : List ℕ) (e : TextError) → Gives {A = Program} {B = Program} (λ p. p) (Err e) (program_in text) → GivesProgram (Err (error_of e)) (program_in text)
-error-exact text (text_error.Fault fault) h = (fault, h, refl, refl, refl)
-error-exact text text_error.Memory h = tt
+error-exact text (TextError.Fault fault) h = (fault, h, refl, refl, refl)
+error-exact text TextError.Memory h = tt
 
 same-program : (p q : Program) → ◌≡◌ {A = Result Program Fault} (Ok p) (Ok q) → p ≡ q
 same-program p q e = cc
@@ -23,13 +23,13 @@ program-answers text q e p s = same-program q p (sym e ∙ spelled-accepts text 
 
 pub error-answers : (text : List ℕ) (e : TextError) → Gives {A = Program} {B = Program} (λ p. p) (Err e) (program_in text)
     → (p : Program) → Spelled text p → Answers p (Err (error_of e))
-error-answers text (text_error.Fault fault) h p s = no-fault p fault (sym (spelled-accepts text p s) ∙ h)
-error-answers text text_error.Memory h p s = tt
+error-answers text (TextError.Fault fault) h p s = no-fault p fault (sym (spelled-accepts text p s) ∙ h)
+error-answers text TextError.Memory h p s = tt
 
 -- a fault that is told is the first
 pub error-first : (text : List ℕ) (e : TextError) → Gives {A = Program} {B = Program} (λ p. p) (Err e) (program_in text) → TellsFirst text (Err (error_of e))
-error-first text (text_error.Fault fault) h = (fault, program-first text fault h, refl, refl, refl)
-error-first text text_error.Memory h = tt
+error-first text (TextError.Fault fault) h = (fault, program-first text fault h, refl, refl, refl)
+error-first text TextError.Memory h = tt
 
 -- a text with a fault is no program
 pub program-never : (text : List ℕ) (q : Program) → program_in text ≡ Ok q → (fault : Fault) → IsFirstFault text fault → ⊥
@@ -41,9 +41,9 @@ same-fault f g e = cc
 -- the first fault of a text is told
 pub error-tells : (text : List ℕ) (e : TextError) → Gives {A = Program} {B = Program} (λ p. p) (Err e) (program_in text)
     → (fault : Fault) → IsFirstFault text fault → Tells fault (Err (error_of e))
-error-tells text (text_error.Fault g) h fault first =
+error-tells text (TextError.Fault g) h fault first =
     let same = same-fault g fault (sym h ∙ first-told text fault first) in
     (ap (λ (f : Fault). number_of f.cause) same, ap (λ (f : Fault). f.line) same, ap (λ (f : Fault). f.word) same)
-error-tells text text_error.Memory h fault first = tt
+error-tells text TextError.Memory h fault first = tt
 
 pub ruleset read_laws = (error-first, error-exact, program-answers, error-answers, program_in-spelled, program_in-formed)

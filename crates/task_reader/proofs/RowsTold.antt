@@ -1,11 +1,11 @@
 -- The first fault of the rows of a text is what the reading gives.
-use Rattle.task_reader.proofs.Vocabulary.{◌≡◌, ◌≢◌, ◌<◌, ℕ, zero, suc, ◌+◌, Bool, true, false, cond, Option, Some, None, List, [], ◌∷◌, ◌++◌, length, Result, Ok, Err, refl, sym, ◌∙◌, ap, subst, ◌⊎◌, inl, inr, arith, codes, differ-nil, same_bytes, MathOp, Cause, NotText, NoEnd, UnknownWord, Fault, fault_at, Word, Row, lines_of, without_mark, rows_of, start_of, is_text, check_text, whole, same-bytes, ArePresent, RowsPresent, rows-present, read-whole, whole-words, Step, Math, What, Item, Place, Outside, Head, Code, Jumped, Ended, Scope, first_scope, after, opening, header_line, entry, read_line, is_cut_short, line_of, items_from, rows_behind_header, items_of, operation_word, Spells, row-accepted, header-accepted, AreNew, line-taken, new-after, Asked, cause_of, header_asked, opened_by, line_asked, word_at, IsRefusedAt, AreAsAsked, IsNoTextAt, AreText, RowFault, EndsTooSoon, LeadTo, LineFault, no_row, in_header, in_row, too_soon, left_open}
-use Rattle.task_syntax.specs.declared.instr.MathOp.TheVariants as op
+use Rattle.task_reader.proofs.Vocabulary.{◌≡◌, ◌≢◌, ℕ, ◌+◌, Bool, true, cond, Option, Some, None, List, [], ◌∷◌, ◌++◌, length, Result, Ok, Err, refl, sym, ◌∙◌, ap, subst, inl, inr, arith, codes, differ-nil, Cause, NotText, NoEnd, UnknownWord, Fault, fault_at, Word, Row, lines_of, without_mark, rows_of, start_of, is_text, check_text, whole, ArePresent, RowsPresent, rows-present, read-whole, whole-words, What, Item, Place, Outside, Head, Ended, Scope, first_scope, after, opening, header_line, read_line, is_cut_short, line_of, items_from, rows_behind_header, items_of, Spells, row-accepted, header-accepted, AreNew, line-taken, new-after, Asked, cause_of, header_asked, opened_by, line_asked, word_at, IsRefusedAt, AreAsAsked, IsNoTextAt, AreText, RowFault, EndsTooSoon, LeadTo, LineFault, no_row, in_header, in_row, too_soon, left_open, is_open_state, check_words}
 use Rattle.task_text.specs.Fault.{◌>>=◌}
-use Rattle.task_lines.specs.declared.item.What.TheVariants as what
 use Rattle.task_reader.proofs.AskedWords.{RowAgrees, whole-agrees}
 use Rattle.task_reader.proofs.AskedLines.{line-agrees, header-agrees}
-use Rattle.task_reader.proofs.AskedPlaces.{TextAnswer, refused-found, none-refused, text-answers}
+use Rattle.task_reader.proofs.AskedPlaces.{refused-found, none-refused}
+use Rattle.task_reader.proofs.FirstFailing.{first-answered, all-answered, no_text, text-tests}
+use Rattle.task_reader.proofs.FirstFaults.{cuts, cuts-is, first-word}
 
 -- ---- single rows
 
@@ -13,35 +13,15 @@ pub same-fault : (f g : Fault) → f.cause ≡ g.cause → f.line ≡ g.line →
 same-fault f g a b c =
     ap (λ cause. fault_at cause f.line f.word) a ∙ (ap (λ line. fault_at g.cause line f.word) b ∙ ap (λ word. fault_at g.cause g.line word) c)
 
-not-both : (b : Bool) → b ≡ true → b ≡ false → ⊥
-not-both b t f = let c : true ≡ false = sym t ∙ f in cc
-
--- the first place where a word is no text is one
-same-place : (words : List Word) (one other : ℕ) → IsNoTextAt words one → IsNoTextAt words other → one ≡ other
-same-place words one other a b = by (λ l. not-both (is_text a.word) (b.none_before one a.word l a.stands) a.here) (λ l. not-both (is_text b.word) (a.none_before other b.word l b.stands) b.here) where
-  by : (one < other → ⊥) → (other < one → ⊥) → one ≡ other
-  by n m = at-same one other n m where
-    at-same : (one other : ℕ) → (one < other → ⊥) → (other < one → ⊥) → one ≡ other
-    at-same zero zero n m = refl
-    at-same zero (suc other) n m = absurd (n (omega arith))
-    at-same (suc one) zero n m = absurd (m (omega arith))
-    at-same (suc one) (suc other) n m = ap suc (at-same one other (λ l. n (omega (arith, l))) (λ l. m (omega (arith, l))))
-
 -- bytes that are no text are what the test of a row finds
 text-told : (row : Row) (fault : Fault) (place : ℕ) → fault.line ≡ row.line → fault.word ≡ place + 1 → fault.cause ≡ NotText → IsNoTextAt row.words place → check_text row ≡ Err fault
-text-told row fault place line word cause h = by (check_text row) refl (text-answers row.line 1 row.words) where
-  by : (o : Result (Unit {0}) Fault) → check_text row ≡ o → TextAnswer row.line 1 row.words o → o ≡ Err fault
-  by (Ok u) is text = absurd (not-both (is_text h.word) (text place h.word h.stands) h.here)
-  by (Err f) is a =
-      let p = same-place row.words a.1 place a.4 h in
-      ap (λ (f : Fault). Err f) (same-fault f fault (a.3 ∙ sym cause) (a.0 ∙ sym line) (omega (arith, a.2, p, word)))
+text-told row fault place line word cause h =
+    first-answered is_text (no_text row.line) (check_words row.line) (text-tests row.line) 1 row.words place h
+    ∙ ap (λ (f : Fault). Err f) (same-fault (no_text row.line (1 + place)) fault (sym cause) (sym line) (omega (arith, word)))
 
 -- a row whose words are text passes the test
 text-clear : (row : Row) → AreText row.words → check_text row ≡ Ok tt
-text-clear row text = by (check_text row) (text-answers row.line 1 row.words) where
-  by : (o : Result (Unit {0}) Fault) → TextAnswer row.line 1 row.words o → o ≡ Ok tt
-  by (Ok u) a = refl
-  by (Err f) a = absurd (not-both (is_text a.4.word) (text a.1 a.4.word a.4.stands) a.4.here)
+text-clear row text = all-answered is_text (no_text row.line) (check_words row.line) (text-tests row.line) 1 row.words text
 
 pair-is : (c d : Cause) (m n : ℕ) → ◌≡◌ {A = Option (Cause × ℕ)} (Some (c, m)) (Some (d, n)) → ◌≡◌ {A = Cause × ℕ} (c, m) (d, n)
 pair-is c d m n e = ap (λ (o : Option (Cause × ℕ)). elim o [ None ↦ (c, m) | Some p ↦ p ]) e
@@ -78,61 +58,18 @@ row-told scope row fault present (line, place, word, inr h) =
     (stops (whole (read_line scope) row) _ fault
     (word-told (whole (read_line scope) row) (line_asked scope) row fault place (whole-agrees (read_line scope) row (line_asked scope) present (line-agrees scope (start_of row))) line word h.1))
 
--- a line that begins with `state` or with `end`
-abbrev pub IsState : What → Type 0
-IsState (what.State name holds settled) = Unit {0}
-IsState _ = ⊥
-
-abbrev pub IsEnd : What → Type 0
-IsEnd what.End = Unit {0}
-IsEnd _ = ⊥
-
--- the word that opens a line is its first
-first-is : (words : List Word) (word : Word) (w : What) → Spells words w → word_at words 0 ≡ word → same_bytes (entry w).word word ≡ true
-first-is words word w s e = ap (λ first. same_bytes (entry w).word first) (sym (ap (λ ws. word_at ws 0) (sym s.1) ∙ e)) ∙ same-bytes (entry w).word
-
--- the word is `state` or `end`
-abbrev IsStateOrEnd : Word → Type 0
-IsStateOrEnd word = (same_bytes word (codes "state") ≡ true) ⊎ (same_bytes word (codes "end") ≡ true)
-
-no-operation : (operation : MathOp) → IsStateOrEnd (operation_word operation) → ⊥
-no-operation op.Add (inl e) = cc
-no-operation op.Add (inr e) = cc
-no-operation operation (inl e) = cc
-no-operation operation (inr e) = cc
-
--- no instruction begins with these words
-no-step : (step : Step) → IsStateOrEnd (entry (what.Step step)).word → ⊥
-no-step (Math operation to left right) b = no-operation operation b
-no-step step (inl e) = cc
-no-step step (inr e) = cc
-
-begins-state : (w : What) → same_bytes (entry w).word (codes "state") ≡ true → IsState w
-begins-state (what.State name holds settled) e = tt
-begins-state (what.Step step) e = absurd (no-step step (inl e))
-begins-state w e = cc
-
-begins-end : (w : What) → same_bytes (entry w).word (codes "end") ≡ true → IsEnd w
-begins-end what.End e = tt
-begins-end (what.Step step) e = absurd (no-step step (inr e))
-begins-end w e = cc
-
 -- no state or end is read outside of kinds
-cut-state : (place : Place) (w : What) → IsState w → place ≢ Outside → place ≢ Head → place ≢ Ended → is_cut_short place w ≡ true
-cut-state Outside (what.State name holds settled) s o h e = absurd (o refl)
-cut-state Head (what.State name holds settled) s o h e = absurd (h refl)
-cut-state Ended (what.State name holds settled) s o h e = absurd (e refl)
-cut-state Code (what.State name holds settled) s o h e = refl
-cut-state Jumped (what.State name holds settled) s o h e = refl
-cut-state place w s o h e = absurd s
+open-state : (place : Place) → place ≢ Outside → place ≢ Head → place ≢ Ended → is_open_state place ≡ true
+open-state Outside o h e = absurd (o refl)
+open-state Head o h e = absurd (h refl)
+open-state Ended o h e = absurd (e refl)
+open-state _ o h e = refl
 
-pub cut-end : (place : Place) (w : What) → IsEnd w → place ≢ Outside → place ≢ Ended → is_cut_short place w ≡ true
-cut-end Outside what.End s o e = absurd (o refl)
-cut-end Head what.End s o e = refl
-cut-end Ended what.End s o e = absurd (e refl)
-cut-end Code what.End s o e = refl
-cut-end Jumped what.End s o e = refl
-cut-end place w s o e = absurd s
+end-cuts : (place : Place) → place ≢ Outside → place ≢ Ended → is_cut_short place What.End ≡ true
+end-cuts Outside o e = absurd (o refl)
+end-cuts Ended o e = absurd (e refl)
+end-cuts Head o e = refl
+end-cuts _ o e = refl
 
 outside-unlike : (scope : Scope) (words : List Word) (word : Word) → word_at words 0 ≡ word → cause_of (opened_by scope (opening Outside word)) word ≡ Some UnknownWord → scope.place ≡ Outside
     → AreAsAsked (line_asked scope) words → ⊥
@@ -142,9 +79,13 @@ outside-unlike scope words word first unknown outside all =
     ap (λ w. cause_of (opened_by scope (opening scope.place w)) w) first ∙ (ap (λ p. cause_of (opened_by scope (opening p word)) word) outside ∙ unknown) in
     let c : ◌≡◌ {A = Option Cause} None (Some UnknownWord) = sym here ∙ there in cc
 
+soon-cuts : (scope : Scope) (words : List Word) → AreAsAsked (line_asked scope) words → EndsTooSoon scope.place (word_at words 0) → cuts scope.place (word_at words 0) ≡ true
+soon-cuts scope words all (inl h) =
+    ap (cuts scope.place) h.0 ∙ open-state scope.place (λ o. outside-unlike scope words (codes "state") h.0 refl o all) h.1 h.2
+soon-cuts scope words all (inr h) = ap (cuts scope.place) h.0 ∙ end-cuts scope.place (λ o. outside-unlike scope words (codes "end") h.0 refl o all) h.1
+
 ends-cut : (scope : Scope) (words : List Word) (w : What) → Spells words w → AreAsAsked (line_asked scope) words → EndsTooSoon scope.place (word_at words 0) → is_cut_short scope.place w ≡ true
-ends-cut scope words w spelled all (inl h) = cut-state scope.place w (begins-state w (first-is words (codes "state") w spelled h.0)) (λ o. outside-unlike scope words (codes "state") h.0 refl o all) h.1 h.2
-ends-cut scope words w spelled all (inr h) = cut-end scope.place w (begins-end w (first-is words (codes "end") w spelled h.0)) (λ o. outside-unlike scope words (codes "end") h.0 refl o all) h.1
+ends-cut scope words w spelled all soon = cuts-is scope.place w ∙ (ap (cuts scope.place) (first-word words w spelled) ∙ soon-cuts scope words all soon)
 
 -- a line that ends a state or a kind too soon is at fault
 soon-told : (scope : Scope) → AreNew 255 scope.variables → (row : Row) → ArePresent row.words → AreText row.words → AreAsAsked (line_asked scope) row.words

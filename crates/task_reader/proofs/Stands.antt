@@ -1,7 +1,5 @@
 -- The names that items give, where each item may stand behind those before it.
-use Rattle.task_reader.proofs.Vocabulary.{◌≡◌, ℕ, zero, suc, ◌+◌, ◌<◌, ◌≤◌, Some, List, [], ◌∷◌, ◌++◌, map, length, slice_get, refl, sym, ◌∙◌, ap, subst, arith, append-nil, AllDiffer, labels_of, Root, Kind, State, Line, differ-nil, differ-snoc, Step, Goto, Label, Again, Done, What, Item, Place, Outside, Scope, after, place_behind, IsNew, CanBeSpelled, MayStand, IsInside, root_names, kind_names, state_names, label_names, step_label, Positions, instr_of, code_from, states_from, kind_of, kinds_from, root_of, roots_from}
-use Rattle.std.proofs.lemmas.List.{append_assoc, length-append}
-use Rattle.task_lines.specs.declared.item.What.TheVariants as what
+use Rattle.task_reader.proofs.Vocabulary.{Row, RowsSpellFrom, ◌≡◌, ℕ, zero, suc, ◌<◌, ◌≤◌, Some, List, [], ◌∷◌, ◌++◌, map, length, slice_get, refl, sym, ap, subst, arith, append-nil, AllDiffer, labels_of, Root, Kind, State, Line, differ-nil, differ-snoc, Step, Goto, Label, Again, Done, What, Item, Place, Outside, Scope, after, place_behind, IsNew, CanBeSpelled, MayStand, IsInside, root_names, kind_names, state_names, step_label, Positions, instr_of, states_from, kind_of, kinds_from, root_of, roots_from, append_assoc, length-append, some-same}
 
 -- some words spell each item, which may stand behind those before it, and the last one closes what is open
 abbrev pub Stand : Scope → List Item → Type 0
@@ -10,6 +8,13 @@ Stand s (item ∷ items) = CanBeSpelled item.what × MayStand s item.what × Sta
 
 abbrev pub item_at : ℕ → What → Item
 item_at line what = record { line = line; what = what }
+
+-- what rows spell may stand
+pub rows-stand : (s : Scope) (rows : List Row) (items : List Item) → RowsSpellFrom s rows items → Stand s items
+rows-stand s [] [] h = h
+rows-stand s (row ∷ rows) [] h = absurd h
+rows-stand s [] (item ∷ items) h = absurd h
+rows-stand s (row ∷ rows) (item ∷ items) h = ((row.words, h.1), h.2, rows-stand (after s item.what) rows items h.3)
 
 -- in a kind
 pub no-outside : (place : Place) → IsInside place → place ≡ Outside → ⊥
@@ -23,9 +28,7 @@ kind-behind _ = tt
 
 pub new-absent : (name : List ℕ) (names : List (List ℕ)) → IsNew name names → (j : ℕ) → slice_get names j ≡ Some name → ⊥
 new-absent name [] n j e = cc
-new-absent name (taken ∷ more) n zero e = n.0 (sym (some-same e)) where
-  some-same : {a b : List ℕ} → Some a ≡ Some b → a ≡ b
-  some-same e = cc
+new-absent name (taken ∷ more) n zero e = n.0 (sym (some-same taken name e))
 new-absent name (taken ∷ more) n (suc j) e = new-absent name more n.1 j e
 
 -- names of which none is given twice, up to a limit
@@ -48,9 +51,9 @@ abbrev KindNames : List Item → Type 0
 KindNames items = (s : Scope) → Stand s items → AreNames 64 s.kinds → AreNames 64 (s.kinds ++ kind_names items)
 
 kind-names-step : (line : ℕ) (w : What) (items : List Item) → KindNames items → KindNames (item_at line w ∷ items)
-kind-names-step line (what.Kind name arguments) items further s stand are =
+kind-names-step line (What.Kind name arguments) items further s stand are =
     subst (AreNames 64) (append_assoc s.kinds (name ∷ []) (kind_names items))
-    (further (after s (what.Kind name arguments)) stand.2 (one-name-more 64 s.kinds name stand.1.1 stand.1.2 are))
+    (further (after s (What.Kind name arguments)) stand.2 (one-name-more 64 s.kinds name stand.1.1 stand.1.2 are))
 kind-names-step line w items further s stand are = further (after s w) stand.2 are
 
 pub kind-names : (items : List Item) → KindNames items
@@ -63,9 +66,9 @@ abbrev RootNames : List Item → Type 0
 RootNames items = (s : Scope) → Stand s items → AreNames 16 s.roots → AreNames 16 (s.roots ++ root_names items)
 
 root-names-step : (line : ℕ) (w : What) (items : List Item) → RootNames items → RootNames (item_at line w ∷ items)
-root-names-step line (what.Root name kind arguments behind priority) items further s stand are =
+root-names-step line (What.Root name kind arguments behind priority) items further s stand are =
     subst (AreNames 16) (append_assoc s.roots (name ∷ []) (root_names items))
-    (further (after s (what.Root name kind arguments behind priority)) stand.2 (one-name-more 16 s.roots name stand.1.1 stand.1.2 are))
+    (further (after s (What.Root name kind arguments behind priority)) stand.2 (one-name-more 16 s.roots name stand.1.1 stand.1.2 are))
 root-names-step line w items further s stand are = further (after s w) stand.2 are
 
 pub root-names : (items : List Item) → RootNames items
@@ -78,14 +81,13 @@ abbrev StateNames : List Item → Type 0
 StateNames items = (s : Scope) → IsInside s.place → Stand s items → AreNames 32 s.states → AreNames 32 (s.states ++ state_names items)
 
 state-names-step : (line : ℕ) (w : What) (items : List Item) → StateNames items → StateNames (item_at line w ∷ items)
-state-names-step line (what.Kind name arguments) items further s in_kind stand are = absurd (no-outside s.place in_kind stand.1.0)
-state-names-step line (what.Var variables) items further s in_kind stand are = further (after s (what.Var variables)) in_kind stand.2 are
-state-names-step line (what.State name holds settled) items further s in_kind stand are =
+state-names-step line (What.Var variables) items further s in_kind stand are = further (after s (What.Var variables)) in_kind stand.2 are
+state-names-step line (What.State name holds settled) items further s in_kind stand are =
     subst (AreNames 32) (append_assoc s.states (name ∷ []) (state_names items))
-    (further (after s (what.State name holds settled)) tt stand.2 (one-name-more 32 s.states name stand.1.1 stand.1.2 are))
-state-names-step line (what.Step step) items further s in_kind stand are = further (after s (what.Step step)) (kind-behind step) stand.2 are
-state-names-step line what.End items further s in_kind stand are = rw append-nil are
-state-names-step line (what.Root name kind arguments behind priority) items further s in_kind stand are = absurd (no-outside s.place in_kind stand.1.0)
+    (further (after s (What.State name holds settled)) tt stand.2 (one-name-more 32 s.states name stand.1.1 stand.1.2 are))
+state-names-step line (What.Step step) items further s in_kind stand are = further (after s (What.Step step)) (kind-behind step) stand.2 are
+state-names-step line What.End items further s in_kind stand are = rw append-nil are
+state-names-step line _ items further s in_kind stand are = absurd (no-outside s.place in_kind stand.1.0)
 
 pub state-names : (items : List Item) → StateNames items
 state-names [] s in_kind stand are = absurd (no-outside s.place in_kind stand)
@@ -96,7 +98,7 @@ state-names (item ∷ items) s in_kind stand are = state-names-step item.line it
 names-of-kinds-step : (kinds : List (List ℕ)) (line : ℕ) (w : What) (items : List Item) → map (λ (k : Kind). k.name) (kinds_from kinds items) ≡ kind_names items
     → map (λ (k : Kind). k.name) (kinds_from kinds (item_at line w ∷ items)) ≡ kind_names (item_at line w ∷ items)
 unfolding kinds_from kind_of
-names-of-kinds-step kinds line (what.Kind name arguments) items further = ap (λ more. name ∷ more) further
+names-of-kinds-step kinds line (What.Kind name arguments) items further = ap (λ more. name ∷ more) further
 names-of-kinds-step kinds line w items further = further
 
 pub names-of-kinds : (kinds : List (List ℕ)) (items : List Item) → map (λ (k : Kind). k.name) (kinds_from kinds items) ≡ kind_names items
@@ -107,7 +109,7 @@ names-of-kinds kinds (item ∷ items) = names-of-kinds-step kinds item.line item
 names-of-roots-step : (kinds : List (List ℕ)) (line : ℕ) (w : What) (items : List Item) → ((earlier : List (List ℕ)) → map (λ (r : Root). r.name) (roots_from kinds earlier items) ≡ root_names items)
     → (earlier : List (List ℕ)) → map (λ (r : Root). r.name) (roots_from kinds earlier (item_at line w ∷ items)) ≡ root_names (item_at line w ∷ items)
 unfolding roots_from root_of
-names-of-roots-step kinds line (what.Root name kind arguments behind priority) items further earlier = ap (λ more. name ∷ more) (further (earlier ++ name ∷ []))
+names-of-roots-step kinds line (What.Root name kind arguments behind priority) items further earlier = ap (λ more. name ∷ more) (further (earlier ++ name ∷ []))
 names-of-roots-step kinds line w items further earlier = further earlier
 
 pub names-of-roots : (kinds : List (List ℕ)) (items : List Item) (earlier : List (List ℕ)) → map (λ (r : Root). r.name) (roots_from kinds earlier items) ≡ root_names items
@@ -118,8 +120,8 @@ names-of-roots kinds (item ∷ items) earlier = names-of-roots-step kinds item.l
 names-of-states-step : (positions : Positions) (line : ℕ) (w : What) (items : List Item) → map (λ (s : State). s.name) (states_from positions items) ≡ state_names items
     → map (λ (s : State). s.name) (states_from positions (item_at line w ∷ items)) ≡ state_names (item_at line w ∷ items)
 unfolding states_from
-names-of-states-step positions line (what.State name holds settled) items further = ap (λ more. name ∷ more) further
-names-of-states-step positions line what.End items further = refl
+names-of-states-step positions line (What.State name holds settled) items further = ap (λ more. name ∷ more) further
+names-of-states-step positions line What.End items further = refl
 names-of-states-step positions line w items further = further
 
 pub names-of-states : (positions : Positions) (items : List Item) → map (λ (s : State). s.name) (states_from positions items) ≡ state_names items
@@ -127,20 +129,8 @@ unfolding states_from
 names-of-states positions [] = refl
 names-of-states positions (item ∷ items) = names-of-states-step positions item.line item.what items (names-of-states positions items)
 
-label-of-instr : (positions : Positions) (label_place : List ℕ → ℕ) (line : ℕ) (step : Step) (lines : List Line)
+pub label-of-instr : (positions : Positions) (label_place : List ℕ → ℕ) (line : ℕ) (step : Step) (lines : List Line)
     → labels_of (record { line = line; instr = instr_of positions label_place step } ∷ lines) ≡ step_label step ++ labels_of lines
 unfolding instr_of
 label-of-instr positions label_place line (Label name) lines = refl
 label-of-instr positions label_place line step lines = refl
-
-names-of-labels-step : (positions : Positions) (line : ℕ) (w : What) (items : List Item) → ((at : ℕ) → labels_of (code_from positions at items) ≡ label_names items)
-    → (at : ℕ) → labels_of (code_from positions at (item_at line w ∷ items)) ≡ label_names (item_at line w ∷ items)
-unfolding code_from
-names-of-labels-step positions line (what.Step step) items further at =
-    label-of-instr positions _ line step (code_from positions (at + 1) items) ∙ ap (λ more. step_label step ++ more) (further (at + 1))
-names-of-labels-step positions line w items further at = refl
-
-pub names-of-labels : (positions : Positions) (items : List Item) (at : ℕ) → labels_of (code_from positions at items) ≡ label_names items
-unfolding code_from
-names-of-labels positions [] at = refl
-names-of-labels positions (item ∷ items) at = names-of-labels-step positions item.line item.what items (names-of-labels positions items) at

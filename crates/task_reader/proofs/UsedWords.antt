@@ -1,9 +1,5 @@
 -- The words that spell a line spell the names that it uses, each at its place.
-use Rattle.task_reader.proofs.Vocabulary.{◌≡◌, ℕ, zero, suc, Option, Some, None, List, [], ◌∷◌, ◌++◌, map, slice_get, refl, sym, subst, codes, Word, Term, Passed, Step, Set, Math, If, Goto, Label, Cell, Rows, Spawn, All, Copy, Drop, Get, Again, Done, RootTerm, What, SpellsTerm, SpellsPassed, SpellsRootTerm, SpellsFuture, EachSpells, SpellsFutures, SpellsBehind, Spells, Use, UsesFuture, UsesRoot, SpellsUse, term_use, passed_use, root_term_use, behind_uses, futures_uses, step_uses, line_uses}
-use Rattle.task_lines.specs.declared.step.Term.TheVariants as term
-use Rattle.task_lines.specs.declared.step.Passed.TheVariants as passed
-use Rattle.task_lines.specs.declared.item.RootTerm.TheVariants as root_term
-use Rattle.task_lines.specs.declared.item.What.TheVariants as what
+use Rattle.task_reader.proofs.Vocabulary.{◌≡◌, ℕ, zero, suc, Option, Some, None, List, [], ◌∷◌, ◌++◌, map, slice_get, refl, sym, subst, codes, Word, Term, Passed, Step, Set, Math, If, Goto, Label, Cell, Rows, Spawn, All, Copy, Drop, Get, Again, Done, RootTerm, What, SpellsTerm, SpellsPassed, SpellsRootTerm, SpellsFuture, EachSpells, SpellsFutures, SpellsBehind, Spells, Use, UsesFuture, UsesRoot, SpellsUse, term_use, passed_use, root_term_use, behind_uses, futures_uses, step_uses, line_uses, some-same}
 
 -- the words begin with one for each use, which spells it
 abbrev Covers : List Word → List Use → Type 0
@@ -17,29 +13,26 @@ pub record SpelledAt (words : List Word) (place : ℕ) (used : Use) : Type 0 whe
   pub stands : slice_get words place ≡ Some word
   pub spells : SpellsUse word used
 
-pub same-use : (one other : Use) → Some one ≡ Some other → one ≡ other
-same-use one other e = cc
-
 covers-at : (words : List Word) (uses : List Use) → Covers words uses → (place : ℕ) (used : Use) → slice_get uses place ≡ Some used → SpelledAt words place used
 covers-at words [] c place used e = cc
 covers-at [] (first ∷ uses) c place used e = absurd c
-covers-at (word ∷ words) (first ∷ uses) c zero used e = record { word = word; stands = refl; spells = subst (SpellsUse word) (same-use first used e) c.0 }
+covers-at (word ∷ words) (first ∷ uses) c zero used e = record { word = word; stands = refl; spells = subst (SpellsUse word) (some-same first used e) c.0 }
 covers-at (word ∷ words) (first ∷ uses) c (suc place) used e = let r = covers-at words uses c.1 place used e in
     record { word = r.word; stands = r.stands; spells = r.spells }
 
 -- ---- parts
 
 term-spelled : (word : Word) (t : Term) → SpellsTerm word t → SpellsUse word (term_use t)
-term-spelled word (term.Literal n) s = tt
-term-spelled word (term.Variable name) s = s.0
+term-spelled word (Term.Literal n) s = tt
+term-spelled word (Term.Variable name) s = s.0
 
 passed-spelled : (word : Word) (a : Passed) → SpellsPassed word a → SpellsUse word (passed_use a)
-passed-spelled word (passed.Number t) s = term-spelled word t s
-passed-spelled word (passed.Future name) s = s.0
+passed-spelled word (Passed.Number t) s = term-spelled word t s
+passed-spelled word (Passed.Future name) s = s.0
 
 root-term-spelled : (word : Word) (t : RootTerm) → SpellsRootTerm word t → SpellsUse word (root_term_use t)
-root-term-spelled word (root_term.Number n) s = tt
-root-term-spelled word (root_term.Root name) s = s.0
+root-term-spelled word (RootTerm.Number n) s = tt
+root-term-spelled word (RootTerm.Root name) s = s.0
 
 future-spelled : (word : Word) (name : List ℕ) → SpellsFuture word name → SpellsUse word (UsesFuture name)
 future-spelled word name s = s.0
@@ -76,7 +69,7 @@ last-covered opening words more (name ∷ names) s =
 
 -- ---- lines
 
-step-covered : (words : List Word) (step : Step) → Spells words (what.Step step) → Covers words (step_uses step)
+step-covered : (words : List Word) (step : Step) → Spells words (What.Step step) → Covers words (step_uses step)
 step-covered words (Set to value) s = subst (λ ws. Covers ws (step_uses (Set to value))) (sym s.1) (tt, (refl, (term-spelled s.0.1.0.0 value s.0.1.0.1, tt)))
 step-covered words (Math operation to left right) s =
     subst (λ ws. Covers ws (step_uses (Math operation to left right))) (sym s.1) (tt, (refl, (term-spelled s.0.1.0.0 left s.0.1.0.1, (term-spelled s.0.1.1.0.0 right s.0.1.1.0.1, tt))))
@@ -99,13 +92,13 @@ step-covered words (Again target behind priority) s =
 step-covered words (Done value) s = subst (λ ws. Covers ws (step_uses (Done value))) (sym s.1) (tt, (term-spelled s.0.0.0 value s.0.0.1, tt))
 
 line-covered : (words : List Word) (w : What) → Spells words w → Covers words (line_uses w)
-line-covered words (what.Kind name arguments) s = tt
-line-covered words (what.Var variables) s = tt
-line-covered words (what.State name holds settled) s = subst (λ ws. Covers ws (line_uses (what.State name holds settled))) (sym s.1)
+line-covered words (What.Kind name arguments) s = tt
+line-covered words (What.Var variables) s = tt
+line-covered words (What.State name holds settled) s = subst (λ ws. Covers ws (line_uses (What.State name holds settled))) (sym s.1)
     (tt, (tt, futures-covered (codes "holds") s.0.1.0.0 _ holds (futures_uses settled) s.0.1.0.1 (last-covered (codes "settled") s.0.1.1.0.0 [] settled s.0.1.1.0.1)))
-line-covered words (what.Step step) s = step-covered words step s
-line-covered words what.End s = tt
-line-covered words (what.Root name kind arguments behind priority) s = subst (λ ws. Covers ws (line_uses (what.Root name kind arguments behind priority))) (sym s.1)
+line-covered words (What.Step step) s = step-covered words step s
+line-covered words What.End s = tt
+line-covered words (What.Root name kind arguments behind priority) s = subst (λ ws. Covers ws (line_uses (What.Root name kind arguments behind priority))) (sym s.1)
     (tt, (tt, (refl, each-covered SpellsRootTerm root_term_use root-term-spelled s.0.1.1.0.0 arguments _ (behind_uses UsesRoot behind) s.0.1.1.0.1 (behind-covered UsesRoot (λ name. refl) s.0.1.1.1.0.0 _ behind s.0.1.1.1.0.1))))
 
 -- the name that a line uses at a place is spelled by the word there

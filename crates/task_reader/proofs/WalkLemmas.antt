@@ -1,8 +1,6 @@
 -- One item after the other.
-use Rattle.task_reader.proofs.Vocabulary.{◌≡◌, ◌≤◌, ◌<◌, ℕ, ◌+◌, List, [], ◌∷◌, length, get_or, drop, Ok, Err, refl, ap, subst, sym, ◌∙◌, arith, drop_more, drop_all, TextError, Gives, What, Item, Scope, after, Fault, kind_names, line_known, known_among, known_at, names_known, IsShort, EachIsShort}
-use Rattle.task_text.specs.declared.fault.TextError.TheVariants as error
+use Rattle.task_reader.proofs.Vocabulary.{◌≡◌, ◌≤◌, ◌<◌, ℕ, ◌+◌, List, [], ◌∷◌, length, get_or, drop, Ok, Err, refl, ap, subst, sym, ◌∙◌, drop_more, drop_all, TextError, Gives, Item, Scope, after, Fault, kind_names, line_known, known_among, known_at, names_known, IsShort, EachIsShort}
 use Rattle.task_text.specs.Fault.{◌>>◌}
-use Rattle.task_lines.specs.declared.item.What.TheVariants as what
 
 pub short-turn : (items : List Item) (at : ℕ) (item : Item) → at < length items → item ≡ get_or items at item → EachIsShort (drop at items)
     → IsShort item.what (drop (at + 1) items) × EachIsShort (drop (at + 1) items)
@@ -18,12 +16,6 @@ names-turn all items s at item l e = ap (names_known all s) (drop_more items at 
 pub names-end : (all items : List Item) (s : Scope) (at : ℕ) → length items ≤ at → names_known all s (drop at items) ≡ names_known all s []
 names-end all items s at l = ap (names_known all s) (drop_all at items l)
 
-pub steps-after : (s : Scope) (what : What) → (after s what).steps ≤ s.steps + 1
-steps-after s (what.Step step) = omega arith
-steps-after s (what.Kind name arguments) = omega arith
-steps-after s (what.State name holds settled) = omega arith
-steps-after s _ = omega arith
-
 pub names-fault : (all items : List Item) (kinds : List (List ℕ)) (s : Scope) (at : ℕ) (item : Item) (fault : Fault)
     → kinds ≡ kind_names all → at < length items → item ≡ get_or items at item
     → line_known (known_among kinds s (drop (at + 1) items)) item.line item.what ≡ Err fault
@@ -37,8 +29,8 @@ pub names-fault-or : (all items : List Item) (kinds : List (List ℕ)) (s : Scop
     → kinds ≡ kind_names all → at < length items → item ≡ get_or items at item
     → Gives {A = Unit {0}} {B = Unit {0}} (λ u. u) (Err fault) (line_known (known_among kinds s (drop (at + 1) items)) item.line item.what)
     → Gives {A = Unit {0}} {B = Unit {0}} (λ u. u) (Err fault) (names_known all s (drop at items))
-names-fault-or all items kinds s at item (error.Fault fault) k l e h = names-fault all items kinds s at item fault k l e h
-names-fault-or all items kinds s at item error.Memory k l e h = tt
+names-fault-or all items kinds s at item (TextError.Fault fault) k l e h = names-fault all items kinds s at item fault k l e h
+names-fault-or all items kinds s at item TextError.Memory k l e h = tt
 
 pub names-next : (all items : List Item) (kinds : List (List ℕ)) (s : Scope) (at : ℕ) (item : Item) (u : Unit {0})
     → kinds ≡ kind_names all → at < length items → item ≡ get_or items at item

@@ -1,8 +1,8 @@
 -- What an item gives to the kind or state that it stands in.
 use Rattle.std.specs.Prelude.{ℕ, Bool, true, false, not, List}
+use Rattle.task_lines.specs.declared.item.Item.{Item}
 use Rattle.task_syntax.specs.Names.{same_bytes}
 use Rattle.task_lines.specs.declared.item.What.TheVariants as what
-use Rattle.task_lines.specs.declared.item.Item.{Item}
 use Rattle.task_reader.specs.Program.{is_label}
 
 abbrev pub is_step : Item → Bool

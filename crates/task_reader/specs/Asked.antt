@@ -1,22 +1,17 @@
 -- The language as a table: what is asked of each word of a line, and the cause where it is not so.
-use Rattle.std.specs.Prelude.{ℕ, Bool, false, not, if◌then◌else◌, nat_lt, Option, Some, None, is_some, List, [], ◌∷◌, ◌++◌, map, length, drop, codes}
-use Rattle.task_syntax.specs.Names.{same_bytes, is_name}
-use Rattle.task_syntax.specs.declared.program.Variable.{Variable}
-use Rattle.task_text.specs.declared.fault.Cause.{Cause}
-use Rattle.task_text.specs.declared.fault.Cause.TheVariants.{NoHeader, UnknownWord, BadName, BadNumber, TwiceNamed, TooMany, BackLabel, WordsLeft}
-use Rattle.task_text.specs.Text.{Word}
-use Rattle.task_text.specs.Scan.{is_missing, is_present, is_future, is_no_bad_number, is_operand, is_among}
+use Rattle.std.specs.Prelude.{ℕ, Bool, false, if◌then◌else◌, Option, Some, None, is_some, List, [], ◌∷◌, ◌++◌, map, length, drop, codes}
+use Rattle.task_lines.specs.Keyword.{opening, relation_of, priority_of}
+use Rattle.task_lines.specs.Line.{variable_of, an_operand, a_variable, other_future, is_argument, an_argument, a_member, is_root_argument, header_word}
+use Rattle.task_lines.specs.Table.{Part, GotoWord, AName, ANewName, ATarget, ATerm, ARelation, AFuture, KindVariables, MoreVariables, Arguments, RootArguments, Members, HeldFutures, SettledFutures, Predecessor, APriority, LastPriority, ARetry, names_of, parts_of, counted}
 use Rattle.task_lines.specs.declared.keyword.Keyword.{Keyword}
 use Rattle.task_lines.specs.declared.scope.Scope.{Scope}
-use Rattle.task_lines.specs.Keyword.{opening, relation_of, priority_of}
-use Rattle.task_lines.specs.Line.{is_variable_word, variable_of, is_new, is_argument, is_root_argument}
-use Rattle.task_lines.specs.Table.{Part, GotoWord, AName, ANewName, ATarget, ATerm, ARelation, AFuture, KindVariables, MoreVariables, Arguments, RootArguments, Members, HeldFutures, SettledFutures, Predecessor, APriority, LastPriority, ARetry, names_of, parts_of, counted}
+use Rattle.task_syntax.specs.Names.{same_bytes}
+use Rattle.task_text.specs.Scan.{is_missing, is_present, is_future, Test, within, this_word, a_name, new_name, a_future}
+use Rattle.task_text.specs.Text.{Word}
+use Rattle.task_text.specs.declared.fault.Cause.{Cause}
+use Rattle.task_text.specs.declared.fault.Cause.TheVariants.{UnknownWord, TwiceNamed, BackLabel, WordsLeft}
 
 -- ---- what may be asked
-
--- what is asked of a word, with the cause where it is not so
-abbrev pub Test : Type 0
-Test = (Word → Bool) × Cause
 
 -- what is asked of the words of a line from one of them on
 pub data Asked : Type 0 where
@@ -56,54 +51,20 @@ behind_words asked (word ∷ words) = behind_words (behind_word asked word) word
 
 -- ---- words
 
-abbrev pub this_word : Word → List Test
-this_word word = (same_bytes word, UnknownWord) ∷ []
-
-abbrev pub a_name : List Test
-a_name = (is_name, BadName) ∷ []
-
-abbrev pub a_future : List Test
-a_future = (is_future, BadName) ∷ []
-
--- a name that is none of those taken
-abbrev pub new_name : Cause → List (List ℕ) → List Test
-new_name cause taken = (is_name, BadName) ∷ (λ word. not (is_among taken word), cause) ∷ []
-
-abbrev pub an_operand : List Test
-an_operand = (is_no_bad_number, BadNumber) ∷ (is_operand, BadName) ∷ []
-
 abbrev pub is_relation : Word → Bool
 is_relation word = is_some (relation_of word)
 
 abbrev pub is_priority : Word → Bool
 is_priority word = is_some (priority_of word)
 
--- what comes next is not past its limit
-abbrev pub within : ℕ → ℕ → Test
-within count limit = (λ word. nat_lt count limit, TooMany)
-
 -- a first word, which opens one of at most so many lines where they are counted
 abbrev pub opens : Option (ℕ × ℕ) → List Test
 opens None = (is_present, UnknownWord) ∷ []
 opens (Some count) = (is_present, UnknownWord) ∷ within count.0 count.1 ∷ []
 
--- a variable that is new behind those before the list and in it, of which there may be `limit`
-abbrev pub a_variable : ℕ → List Variable → List Word → List Test
-a_variable limit before found =
-    (is_variable_word, BadName) ∷ (is_new (before ++ map variable_of found), TwiceNamed)
-    ∷ within (length (before ++ map variable_of found)) limit ∷ []
-
 -- a future that does not stand in the list before
-abbrev pub other_future : List Word → List Test
-other_future found = (is_future, BadName) ∷ (λ word. not (is_among (map (drop 1) found) (drop 1 word)), TwiceNamed) ∷ []
-
--- what is passed, of which there are at most 16
-abbrev pub an_argument : List Word → List Test
-an_argument found = (is_no_bad_number, BadNumber) ∷ within (length found) 16 ∷ []
-
--- a member of an aggregate, which has at most 8
-abbrev pub a_member : List Word → List Test
-a_member found = (is_future, BadName) ∷ within (length found) 8 ∷ []
+abbrev pub another_future : List Word → List Test
+another_future found = other_future (map (drop 1) found)
 
 -- ---- parts of lines
 
@@ -128,16 +89,16 @@ retry_part next = where_word is_missing next (One (this_word (codes "retry")) ne
 
 abbrev pub holds_part : Asked → Asked
 holds_part next =
-    where_word (same_bytes (codes "holds")) (One (this_word (codes "holds")) (at_least_one is_future other_future next)) next
+    where_word (same_bytes (codes "holds")) (One (this_word (codes "holds")) (at_least_one is_future another_future next)) next
 
 abbrev pub settled_part : Asked → Asked
 settled_part next =
-    where_word is_missing next (One (this_word (codes "settled")) (at_least_one is_present other_future next))
+    where_word is_missing next (One (this_word (codes "settled")) (at_least_one is_present another_future next))
 
 -- ---- lines
 
 abbrev pub header_asked : Asked
-header_asked = One ((same_bytes (codes "ktask"), NoHeader) ∷ []) (One ((same_bytes (codes "1"), NoHeader) ∷ []) End)
+header_asked = One (header_word (codes "ktask")) (One (header_word (codes "1")) End)
 
 -- what is asked of a part of a line, and then of what follows
 abbrev pub part_asked : Scope → Part → Asked → Asked
@@ -148,11 +109,11 @@ part_asked s ATarget next = One (new_name BackLabel s.labels) next
 part_asked s ATerm next = One an_operand next
 part_asked s ARelation next = One ((is_relation, UnknownWord) ∷ []) next
 part_asked s AFuture next = One a_future next
-part_asked s KindVariables next = Many is_present (a_variable 16 []) [] next
-part_asked s MoreVariables next = at_least_one is_present (a_variable 255 s.variables) next
-part_asked s Arguments next = Many is_argument an_argument [] next
-part_asked s RootArguments next = Many is_root_argument an_argument [] next
-part_asked s Members next = at_least_one is_future a_member next
+part_asked s KindVariables next = Many is_present (λ found. a_variable 16 (map variable_of found)) [] next
+part_asked s MoreVariables next = at_least_one is_present (λ found. a_variable 255 (s.variables ++ map variable_of found)) next
+part_asked s Arguments next = Many is_argument (λ found. an_argument (length found)) [] next
+part_asked s RootArguments next = Many is_root_argument (λ found. an_argument (length found)) [] next
+part_asked s Members next = at_least_one is_future (λ found. a_member (length found)) next
 part_asked s HeldFutures next = holds_part next
 part_asked s SettledFutures next = settled_part next
 part_asked s Predecessor next = behind_part next

@@ -1,21 +1,20 @@
 -- Which fault a text has first, said by its rows, their words and the table of the language.
 use Rattle.std.specs.Prelude.{◌≡◌, ◌≢◌, ℕ, ◌+◌, ◌<◌, ◌≤◌, ◌⊎◌, Bool, false, true, Option, Some, None, unwrap_or, Result, Ok, Err, List, [], ◌∷◌, ◌++◌, length, take, slice_get, codes}
-use Rattle.task_syntax.specs.declared.program.Program.{Program}
-use Rattle.task_text.specs.declared.fault.Cause.{Cause}
-use Rattle.task_text.specs.declared.fault.Cause.TheVariants.{NotText, NoHeader, UnknownName, NoEnd}
-use Rattle.task_text.specs.declared.fault.Fault.{Fault}
-use Rattle.task_text.specs.Fault.{fault_at, number_of}
-use Rattle.task_text.specs.Text.{Word, Row, lines_of, without_mark, rows_of}
-use Rattle.task_text.specs.Scan.{is_text}
-use Rattle.task_lines.specs.declared.item.What.{What}
+use Rattle.task_lines.specs.Grammar.{Spells, MayStand, RowsSpell}
+use Rattle.task_lines.specs.Scope.{first_scope, after}
 use Rattle.task_lines.specs.declared.item.Item.{Item}
+use Rattle.task_lines.specs.declared.item.What.{What}
 use Rattle.task_lines.specs.declared.scope.Place.{Place}
 use Rattle.task_lines.specs.declared.scope.Place.TheVariants.{Outside, Head, Ended}
 use Rattle.task_lines.specs.declared.scope.Scope.{Scope}
-use Rattle.task_lines.specs.Scope.{first_scope, after}
-use Rattle.task_lines.specs.Grammar.{Spells, MayStand, RowsSpell}
 use Rattle.task_reader.specs.declared.error.ReadError.{ReadError}
-use Rattle.task_reader.specs.declared.error.ReadError.TheVariants as error
+use Rattle.task_syntax.specs.declared.program.Program.{Program}
+use Rattle.task_text.specs.Fault.{fault_at, number_of}
+use Rattle.task_text.specs.Scan.{is_text}
+use Rattle.task_text.specs.Text.{Word, Row, lines_of, without_mark, rows_of}
+use Rattle.task_text.specs.declared.fault.Cause.{Cause}
+use Rattle.task_text.specs.declared.fault.Cause.TheVariants.{NotText, NoHeader, UnknownName, NoEnd}
+use Rattle.task_text.specs.declared.fault.Fault.{Fault}
 use Rattle.task_reader.specs.Uses.{Use, SpellsUse, line_uses}
 use Rattle.task_reader.specs.Names.{is_given, known_at}
 use Rattle.task_reader.specs.Asked.{Asked, cause_of, behind_words, header_asked, line_asked}
@@ -40,12 +39,16 @@ pub record IsRefusedAt (asked : Asked) (words : List Word) (place : ℕ) (cause 
 abbrev pub AreAsAsked : Asked → List Word → Type 0
 AreAsAsked asked words = (place : ℕ) → place ≤ length words → cause_at asked words place ≡ None
 
+-- what stands at a place is the first that fails the test
+pub record FailsFirst {A : Type 0} (test : A → Bool) (xs : List A) (place : ℕ) : Type 0 where
+  pub found : A
+  pub stands : slice_get xs place ≡ Some found
+  pub here : test found ≡ false
+  pub none_before : (earlier : ℕ) (other : A) → earlier < place → slice_get xs earlier ≡ Some other → test other ≡ true
+
 -- the word at a place is the first with a byte that may stand in comments alone
-pub record IsNoTextAt (words : List Word) (place : ℕ) : Type 0 where
-  pub word : Word
-  pub stands : slice_get words place ≡ Some word
-  pub here : is_text word ≡ false
-  pub none_before : (earlier : ℕ) (word : Word) → earlier < place → slice_get words earlier ≡ Some word → is_text word ≡ true
+abbrev pub IsNoTextAt : List Word → ℕ → Type 0
+IsNoTextAt words place = FailsFirst is_text words place
 
 abbrev pub AreText : List Word → Type 0
 AreText words = (place : ℕ) (word : Word) → slice_get words place ≡ Some word → is_text word ≡ true
@@ -142,12 +145,12 @@ IsFirstFault text fault = LineFault text fault ⊎ IsFirstUnknown text fault
 -- a fault that is told is the first
 abbrev pub TellsFirst : List ℕ → Result Program ReadError → Type 0
 TellsFirst text (Ok p) = Unit {0}
-TellsFirst text (Err (error.Fault cause line word)) =
+TellsFirst text (Err (ReadError.Fault cause line word)) =
     (fault : Fault) × IsFirstFault text fault × (cause ≡ number_of fault.cause) × (line ≡ fault.line) × (word ≡ fault.word)
-TellsFirst text (Err error.Memory) = Unit {0}
+TellsFirst text (Err ReadError.Memory) = Unit {0}
 
 -- the fault is told, unless memory fails
 abbrev pub Tells : Fault → Result Program ReadError → Type 0
 Tells fault (Ok p) = ⊥
-Tells fault (Err (error.Fault cause line word)) = (cause ≡ number_of fault.cause) × (line ≡ fault.line) × (word ≡ fault.word)
-Tells fault (Err error.Memory) = Unit {0}
+Tells fault (Err (ReadError.Fault cause line word)) = (cause ≡ number_of fault.cause) × (line ≡ fault.line) × (word ≡ fault.word)
+Tells fault (Err ReadError.Memory) = Unit {0}

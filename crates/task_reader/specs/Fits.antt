@@ -1,10 +1,9 @@
 -- Lists so short that the positions in them, and the numbers of the words that they take, fit their types.
 use Rattle.std.specs.Prelude.{ℕ, ◌+◌, ◌^◌, ◌<◌, ◌≤◌, List, [], ◌∷◌, ◌++◌, length}
+use Rattle.task_lines.specs.declared.item.Item.{Item}
+use Rattle.task_lines.specs.declared.item.What.{What}
 use Rattle.task_lines.specs.declared.step.Step.{Step}
 use Rattle.task_lines.specs.declared.step.Step.TheVariants.{Spawn, All}
-use Rattle.task_lines.specs.declared.item.What.{What}
-use Rattle.task_lines.specs.declared.item.What.TheVariants as what
-use Rattle.task_lines.specs.declared.item.Item.{Item}
 use Rattle.task_reader.specs.declared.positions.Positions.{Positions}
 use Rattle.task_reader.specs.Names.{kind_names, state_names}
 use Rattle.task_reader.specs.Program.{variables_from}
@@ -12,12 +11,12 @@ use Rattle.task_reader.specs.Program.{variables_from}
 -- the names of all roots
 abbrev pub root_names : List Item → List (List ℕ)
 root_names [] = []
-root_names (item ∷ items) = elim item.what [ what.Root name kind arguments behind priority ↦ name ∷ root_names items | _ ↦ root_names items ]
+root_names (item ∷ items) = elim item.what [ What.Root name kind arguments behind priority ↦ name ∷ root_names items | _ ↦ root_names items ]
 
 -- how many instructions follow in a state
 abbrev pub steps_ahead : List Item → ℕ
 steps_ahead [] = 0
-steps_ahead (item ∷ items) = elim item.what [ what.Step step ↦ steps_ahead items + 1 | _ ↦ 0 ]
+steps_ahead (item ∷ items) = elim item.what [ What.Step step ↦ steps_ahead items + 1 | _ ↦ 0 ]
 
 -- what the instruction lists is short
 abbrev pub IsShortStep : Step → Type 0
@@ -27,13 +26,13 @@ IsShortStep _ = Unit {0}
 
 -- what the line lists is short, and what the items behind it give to its kind or state
 abbrev pub IsShort : What → List Item → Type 0
-IsShort (what.Kind name arguments) items =
+IsShort (What.Kind name arguments) items =
     (length arguments ≤ 16) × (length (arguments ++ variables_from items) ≤ 255) × (length (state_names items) ≤ 32)
-IsShort (what.Var variables) items = Unit {0}
-IsShort (what.State name holds settled) items = (steps_ahead items ≤ 64) × (length holds + length settled < 2 ^ 31)
-IsShort (what.Step step) items = IsShortStep step
-IsShort what.End items = Unit {0}
-IsShort (what.Root name kind arguments behind priority) items = length arguments ≤ 16
+IsShort (What.Var variables) items = Unit {0}
+IsShort (What.State name holds settled) items = (steps_ahead items ≤ 64) × (length holds + length settled < 2 ^ 31)
+IsShort (What.Step step) items = IsShortStep step
+IsShort What.End items = Unit {0}
+IsShort (What.Root name kind arguments behind priority) items = length arguments ≤ 16
 
 -- so it is for each line
 abbrev pub EachIsShort : List Item → Type 0

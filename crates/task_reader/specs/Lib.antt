@@ -2,7 +2,6 @@ pub mod Uses
 pub mod Names
 pub mod Program
 pub mod Fits
-pub mod Groups
 pub mod Ahead
 pub mod Finding
 pub mod Parts

@@ -1,18 +1,17 @@
 -- Unknown names: the first name, in the order of lines and words, that is given nowhere.
 use Rattle.std.specs.Prelude.{ℕ, ◌+◌, Bool, true, if◌then◌else◌, List, [], ◌∷◌, ◌++◌, Result, Ok, Err}
-use Rattle.task_syntax.specs.declared.program.Sort.TheVariants.{Number, Future}
-use Rattle.task_syntax.specs.declared.program.Variable.{Variable}
-use Rattle.task_text.specs.declared.fault.Cause.TheVariants.{UnknownName}
-use Rattle.task_text.specs.declared.fault.Fault.{Fault}
-use Rattle.task_text.specs.Fault.{fault_at, ◌>>◌}
-use Rattle.task_text.specs.Scan.{is_among}
+use Rattle.task_lines.specs.Scope.{has_variable, after}
+use Rattle.task_lines.specs.declared.item.Item.{Item}
+use Rattle.task_lines.specs.declared.item.What.{What}
+use Rattle.task_lines.specs.declared.scope.Scope.{Scope}
 use Rattle.task_lines.specs.declared.step.Step.{Step}
 use Rattle.task_lines.specs.declared.step.Step.TheVariants.{Label}
-use Rattle.task_lines.specs.declared.item.What.{What}
-use Rattle.task_lines.specs.declared.item.What.TheVariants as what
-use Rattle.task_lines.specs.declared.item.Item.{Item}
-use Rattle.task_lines.specs.declared.scope.Scope.{Scope}
-use Rattle.task_lines.specs.Scope.{has_variable, after}
+use Rattle.task_syntax.specs.declared.program.Sort.TheVariants.{Number, Future}
+use Rattle.task_syntax.specs.declared.program.Variable.{Variable}
+use Rattle.task_text.specs.Fault.{fault_at, ◌>>◌}
+use Rattle.task_text.specs.Scan.{is_among}
+use Rattle.task_text.specs.declared.fault.Cause.TheVariants.{UnknownName}
+use Rattle.task_text.specs.declared.fault.Fault.{Fault}
 use Rattle.task_reader.specs.Uses.{Use, Plain, UsesNumber, UsesFuture, UsesKind, UsesState, UsesLabel, UsesRoot, line_uses}
 
 -- ---- the names that the items give
@@ -20,13 +19,13 @@ use Rattle.task_reader.specs.Uses.{Use, Plain, UsesNumber, UsesFuture, UsesKind,
 -- the names of all kinds
 abbrev pub kind_names : List Item → List (List ℕ)
 kind_names [] = []
-kind_names (item ∷ items) = elim item.what [ what.Kind name arguments ↦ name ∷ kind_names items | _ ↦ kind_names items ]
+kind_names (item ∷ items) = elim item.what [ What.Kind name arguments ↦ name ∷ kind_names items | _ ↦ kind_names items ]
 
 -- the names of the states that follow in a kind
 abbrev pub state_names : List Item → List (List ℕ)
 state_names [] = []
 state_names (item ∷ items) =
-    elim item.what [ what.State name holds settled ↦ name ∷ state_names items | what.End ↦ [] | _ ↦ state_names items ]
+    elim item.what [ What.State name holds settled ↦ name ∷ state_names items | What.End ↦ [] | _ ↦ state_names items ]
 
 abbrev pub step_label : Step → List (List ℕ)
 step_label (Label name) = name ∷ []
@@ -35,7 +34,7 @@ step_label _ = []
 -- the names of the labels that follow in a state
 abbrev pub label_names : List Item → List (List ℕ)
 label_names [] = []
-label_names (item ∷ items) = elim item.what [ what.Step step ↦ step_label step ++ label_names items | _ ↦ [] ]
+label_names (item ∷ items) = elim item.what [ What.Step step ↦ step_label step ++ label_names items | _ ↦ [] ]
 
 -- the names that a line may use: those of kinds, of its kind's variables and states, of the labels ahead in its state,
 -- and of the roots before it

@@ -1,11 +1,11 @@
 -- What one item adds to the lists of a program.
 use Rattle.std.specs.Prelude.{ℕ, List, [], ◌∷◌}
-use Rattle.task_syntax.specs.declared.program.State.{State}
-use Rattle.task_syntax.specs.declared.program.Kind.{Kind}
-use Rattle.task_syntax.specs.declared.program.Root.{Root}
-use Rattle.task_lines.specs.declared.item.What.TheVariants as what
 use Rattle.task_lines.specs.declared.item.Item.{Item}
 use Rattle.task_reader.specs.declared.positions.Positions.{Positions}
+use Rattle.task_syntax.specs.declared.program.Kind.{Kind}
+use Rattle.task_syntax.specs.declared.program.Root.{Root}
+use Rattle.task_syntax.specs.declared.program.State.{State}
+use Rattle.task_lines.specs.declared.item.What.TheVariants as what
 use Rattle.task_reader.specs.Program.{state_of, kind_of, root_of}
 
 abbrev pub kind_name_at : Item → List (List ℕ)

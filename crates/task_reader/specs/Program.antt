@@ -1,34 +1,27 @@
 -- The program that items stand for, with names as positions.
 use Rattle.std.specs.Prelude.{ℕ, ◌+◌, Bool, false, if◌then◌else◌, List, [], ◌∷◌, ◌++◌, map, length, Option, option_map}
-use Rattle.task_syntax.specs.Names.{same_bytes}
-use Rattle.task_syntax.specs.declared.program.Sort.TheVariants.{Number, Future}
-use Rattle.task_syntax.specs.declared.program.Variable.{Variable}
-use Rattle.task_syntax.specs.declared.instr.Operand.{Operand}
-use Rattle.task_syntax.specs.declared.instr.Operand.TheVariants as operand
-use Rattle.task_syntax.specs.declared.instr.Argument.{Argument}
-use Rattle.task_syntax.specs.declared.instr.Argument.TheVariants as argument
-use Rattle.task_syntax.specs.declared.instr.Instr.{Instr}
-use Rattle.task_syntax.specs.declared.instr.Instr.TheVariants as instr
-use Rattle.task_syntax.specs.declared.instr.Line.{Line}
-use Rattle.task_syntax.specs.declared.program.State.{State}
-use Rattle.task_syntax.specs.declared.program.Kind.{Kind}
-use Rattle.task_syntax.specs.declared.program.RootArgument.{RootArgument}
-use Rattle.task_syntax.specs.declared.program.RootArgument.TheVariants as root_argument
-use Rattle.task_syntax.specs.declared.program.Root.{Root}
-use Rattle.task_syntax.specs.declared.program.Program.{Program}
-use Rattle.task_syntax.specs.declared.value.Priority.{Priority}
-use Rattle.task_lines.specs.declared.step.Term.{Term}
-use Rattle.task_lines.specs.declared.step.Term.TheVariants as term
+use Rattle.task_lines.specs.Scope.{is_variable}
+use Rattle.task_lines.specs.declared.item.Item.{Item}
+use Rattle.task_lines.specs.declared.item.RootTerm.{RootTerm}
 use Rattle.task_lines.specs.declared.step.Passed.{Passed}
-use Rattle.task_lines.specs.declared.step.Passed.TheVariants as passed
 use Rattle.task_lines.specs.declared.step.Step.{Step}
 use Rattle.task_lines.specs.declared.step.Step.TheVariants.{Set, Math, If, Goto, Label, Cell, Rows, Spawn, All, Copy, Drop, Get, Again, Done}
-use Rattle.task_lines.specs.declared.item.RootTerm.{RootTerm}
-use Rattle.task_lines.specs.declared.item.RootTerm.TheVariants as root_term
-use Rattle.task_lines.specs.declared.item.What.TheVariants as what
-use Rattle.task_lines.specs.declared.item.Item.{Item}
-use Rattle.task_lines.specs.Scope.{is_variable}
+use Rattle.task_lines.specs.declared.step.Term.{Term}
 use Rattle.task_reader.specs.declared.positions.Positions.{Positions}
+use Rattle.task_syntax.specs.Names.{same_bytes}
+use Rattle.task_syntax.specs.declared.instr.Argument.{Argument}
+use Rattle.task_syntax.specs.declared.instr.Instr.{Instr}
+use Rattle.task_syntax.specs.declared.instr.Line.{Line}
+use Rattle.task_syntax.specs.declared.instr.Operand.{Operand}
+use Rattle.task_syntax.specs.declared.program.Kind.{Kind}
+use Rattle.task_syntax.specs.declared.program.Program.{Program}
+use Rattle.task_syntax.specs.declared.program.Root.{Root}
+use Rattle.task_syntax.specs.declared.program.RootArgument.{RootArgument}
+use Rattle.task_syntax.specs.declared.program.Sort.TheVariants.{Number, Future}
+use Rattle.task_syntax.specs.declared.program.State.{State}
+use Rattle.task_syntax.specs.declared.program.Variable.{Variable}
+use Rattle.task_syntax.specs.declared.value.Priority.{Priority}
+use Rattle.task_lines.specs.declared.item.What.TheVariants as what
 use Rattle.task_reader.specs.Names.{kind_names, state_names}
 
 -- ---- positions
@@ -60,33 +53,33 @@ steps_to name (item ∷ items) =
 -- ---- instructions
 
 abbrev pub operand_of : Positions → Term → Operand
-operand_of p (term.Literal n) = operand.Literal n
-operand_of p (term.Variable name) = operand.Variable (number_place p.variables name)
+operand_of p (Term.Literal n) = Operand.Literal n
+operand_of p (Term.Variable name) = Operand.Variable (number_place p.variables name)
 
 abbrev pub argument_of : Positions → Passed → Argument
-argument_of p (passed.Number t) = argument.Number (operand_of p t)
-argument_of p (passed.Future name) = argument.Future (future_place p.variables name)
+argument_of p (Passed.Number t) = Argument.Number (operand_of p t)
+argument_of p (Passed.Future name) = Argument.Future (future_place p.variables name)
 
 -- the instruction of a step, where a label of this name has that position
 unfoldable pub instr_of : Positions → (List ℕ → ℕ) → Step → Instr
-instr_of p label_place (Set to value) = instr.Set (number_place p.variables to) (operand_of p value)
+instr_of p label_place (Set to value) = Instr.Set (number_place p.variables to) (operand_of p value)
 instr_of p label_place (Math operation to left right) =
-    instr.Math operation (number_place p.variables to) (operand_of p left) (operand_of p right)
-instr_of p label_place (If relation left right target) = instr.If relation (operand_of p left) (operand_of p right) (label_place target)
-instr_of p label_place (Goto target) = instr.Goto (label_place target)
-instr_of p label_place (Label name) = instr.Label name
-instr_of p label_place (Cell to column row) = instr.Cell (number_place p.variables to) column (operand_of p row)
-instr_of p label_place (Rows to column) = instr.Rows (number_place p.variables to) column
+    Instr.Math operation (number_place p.variables to) (operand_of p left) (operand_of p right)
+instr_of p label_place (If relation left right target) = Instr.If relation (operand_of p left) (operand_of p right) (label_place target)
+instr_of p label_place (Goto target) = Instr.Goto (label_place target)
+instr_of p label_place (Label name) = Instr.Label name
+instr_of p label_place (Cell to column row) = Instr.Cell (number_place p.variables to) column (operand_of p row)
+instr_of p label_place (Rows to column) = Instr.Rows (number_place p.variables to) column
 instr_of p label_place (Spawn to kind arguments behind priority retry) =
-    instr.Spawn (future_place p.variables to) (place_of p.kinds kind) (map (argument_of p) arguments) (option_map (future_place p.variables) behind) priority retry
+    Instr.Spawn (future_place p.variables to) (place_of p.kinds kind) (map (argument_of p) arguments) (option_map (future_place p.variables) behind) priority retry
 instr_of p label_place (All to members priority retry) =
-    instr.All (future_place p.variables to) (map (future_place p.variables) members) priority retry
-instr_of p label_place (Copy to source) = instr.Copy (future_place p.variables to) (future_place p.variables source)
-instr_of p label_place (Drop future) = instr.Drop (future_place p.variables future)
-instr_of p label_place (Get to future) = instr.Get (number_place p.variables to) (future_place p.variables future)
+    Instr.All (future_place p.variables to) (map (future_place p.variables) members) priority retry
+instr_of p label_place (Copy to source) = Instr.Copy (future_place p.variables to) (future_place p.variables source)
+instr_of p label_place (Drop future) = Instr.Drop (future_place p.variables future)
+instr_of p label_place (Get to future) = Instr.Get (number_place p.variables to) (future_place p.variables future)
 instr_of p label_place (Again target behind priority) =
-    instr.Again (place_of p.states target) (option_map (future_place p.variables) behind) priority
-instr_of p label_place (Done value) = instr.Done (operand_of p value)
+    Instr.Again (place_of p.states target) (option_map (future_place p.variables) behind) priority
+instr_of p label_place (Done value) = Instr.Done (operand_of p value)
 
 -- the instructions up to the end of the state, where the first has the position `at`
 unfoldable pub code_from : Positions → ℕ → List Item → List Line
@@ -133,8 +126,8 @@ kinds_from kinds (item ∷ items) =
 -- ---- roots and the program
 
 abbrev pub root_argument_of : List (List ℕ) → RootTerm → RootArgument
-root_argument_of earlier (root_term.Number n) = root_argument.Number n
-root_argument_of earlier (root_term.Root name) = root_argument.Root (place_of earlier name)
+root_argument_of earlier (RootTerm.Number n) = RootArgument.Number n
+root_argument_of earlier (RootTerm.Root name) = RootArgument.Root (place_of earlier name)
 
 -- the root of a line, behind roots with the earlier names
 unfoldable pub root_of : List (List ℕ) → List (List ℕ) → ℕ → List ℕ → List ℕ → List RootTerm → Option (List ℕ) → Priority → Root

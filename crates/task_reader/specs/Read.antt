@@ -1,17 +1,15 @@
 -- The program that a text is, or its first fault.
 use Rattle.std.specs.Prelude.{◌≡◌, ℕ, List, Result, Ok, Err}
+use Rattle.task_lines.specs.Grammar.{RowsSpell}
+use Rattle.task_lines.specs.Reading.{items_of}
+use Rattle.task_lines.specs.Scope.{first_scope}
+use Rattle.task_lines.specs.declared.item.Item.{Item}
+use Rattle.task_reader.specs.declared.error.ReadError.{ReadError}
 use Rattle.task_syntax.specs.declared.program.Program.{Program}
+use Rattle.task_text.specs.Fault.{number_of, ◌>>=◌, ◌>>◌}
+use Rattle.task_text.specs.Text.{rows_of}
 use Rattle.task_text.specs.declared.fault.Fault.{Fault}
 use Rattle.task_text.specs.declared.fault.TextError.{TextError}
-use Rattle.task_text.specs.declared.fault.TextError.TheVariants as text_error
-use Rattle.task_text.specs.Fault.{number_of, ◌>>=◌, ◌>>◌}
-use Rattle.task_lines.specs.Scope.{first_scope}
-use Rattle.task_lines.specs.Reading.{items_of}
-use Rattle.task_lines.specs.Grammar.{RowsSpell}
-use Rattle.task_lines.specs.declared.item.Item.{Item}
-use Rattle.task_text.specs.Text.{rows_of}
-use Rattle.task_reader.specs.declared.error.ReadError.{ReadError}
-use Rattle.task_reader.specs.declared.error.ReadError.TheVariants as error
 use Rattle.task_reader.specs.Names.{names_known}
 use Rattle.task_reader.specs.Program.{program_of}
 
@@ -39,17 +37,17 @@ Spelled text p = (items : List Item) × IsTextOf text items × (p ≡ program_of
 -- the outcome is what the reading gives, with a fault by its number, or want of memory
 abbrev pub GivesProgram : Result Program ReadError → Result Program Fault → Type 0
 GivesProgram (Ok p) reading = reading ≡ Ok p
-GivesProgram (Err (error.Fault cause line word)) reading =
+GivesProgram (Err (ReadError.Fault cause line word)) reading =
     (fault : Fault) × (reading ≡ Err fault) × (cause ≡ number_of fault.cause) × (line ≡ fault.line) × (word ≡ fault.word)
-GivesProgram (Err error.Memory) reading = Unit {0}
+GivesProgram (Err ReadError.Memory) reading = Unit {0}
 
 -- the error that tells the fault
 abbrev pub error_of : TextError → ReadError
-error_of (text_error.Fault fault) = error.Fault (number_of fault.cause) fault.line fault.word
-error_of text_error.Memory = error.Memory
+error_of (TextError.Fault fault) = ReadError.Fault (number_of fault.cause) fault.line fault.word
+error_of TextError.Memory = ReadError.Memory
 
 -- the program is answered, unless memory fails
 abbrev pub Answers : Program → Result Program ReadError → Type 0
 Answers p (Ok q) = q ≡ p
-Answers p (Err (error.Fault cause line word)) = ⊥
-Answers p (Err error.Memory) = Unit {0}
+Answers p (Err (ReadError.Fault cause line word)) = ⊥
+Answers p (Err ReadError.Memory) = Unit {0}

@@ -1,17 +1,13 @@
 -- The names that a line uses, word by word.
 use Rattle.std.specs.Prelude.{◌≡◌, ℕ, List, [], ◌∷◌, ◌++◌, map, Option, Some, None}
-use Rattle.task_text.specs.Text.{Word}
-use Rattle.task_lines.specs.declared.step.Term.{Term}
-use Rattle.task_lines.specs.declared.step.Term.TheVariants as term
+use Rattle.task_lines.specs.Grammar.{future_word}
+use Rattle.task_lines.specs.declared.item.RootTerm.{RootTerm}
+use Rattle.task_lines.specs.declared.item.What.{What}
 use Rattle.task_lines.specs.declared.step.Passed.{Passed}
-use Rattle.task_lines.specs.declared.step.Passed.TheVariants as passed
 use Rattle.task_lines.specs.declared.step.Step.{Step}
 use Rattle.task_lines.specs.declared.step.Step.TheVariants.{Set, Math, If, Goto, Label, Cell, Rows, Spawn, All, Copy, Drop, Get, Again, Done}
-use Rattle.task_lines.specs.declared.item.RootTerm.{RootTerm}
-use Rattle.task_lines.specs.declared.item.RootTerm.TheVariants as root_term
-use Rattle.task_lines.specs.declared.item.What.{What}
-use Rattle.task_lines.specs.declared.item.What.TheVariants as what
-use Rattle.task_lines.specs.Grammar.{future_word}
+use Rattle.task_lines.specs.declared.step.Term.{Term}
+use Rattle.task_text.specs.Text.{Word}
 
 -- what a word of a line names that must be given elsewhere; a plain word names nothing of that sort
 pub data Use : Type 0 where
@@ -34,16 +30,16 @@ SpellsUse word (UsesLabel name) = word ≡ name
 SpellsUse word (UsesRoot name) = word ≡ future_word name
 
 abbrev pub term_use : Term → Use
-term_use (term.Literal n) = Plain
-term_use (term.Variable name) = UsesNumber name
+term_use (Term.Literal n) = Plain
+term_use (Term.Variable name) = UsesNumber name
 
 abbrev pub passed_use : Passed → Use
-passed_use (passed.Number t) = term_use t
-passed_use (passed.Future name) = UsesFuture name
+passed_use (Passed.Number t) = term_use t
+passed_use (Passed.Future name) = UsesFuture name
 
 abbrev pub root_term_use : RootTerm → Use
-root_term_use (root_term.Number n) = Plain
-root_term_use (root_term.Root name) = UsesRoot name
+root_term_use (RootTerm.Number n) = Plain
+root_term_use (RootTerm.Root name) = UsesRoot name
 
 -- the word `behind` and the predecessor, where one is named
 abbrev pub behind_uses : (List ℕ → Use) → Option (List ℕ) → List Use
@@ -91,9 +87,9 @@ step_uses (Done value) = Plain ∷ term_use value ∷ []
 
 -- the words of a line, up to its last name
 abbrev pub line_uses : What → List Use
-line_uses (what.Kind name arguments) = []
-line_uses (what.Var variables) = []
-line_uses (what.State name holds settled) = state_uses holds settled
-line_uses (what.Step step) = step_uses step
-line_uses what.End = []
-line_uses (what.Root name kind arguments behind priority) = root_uses kind arguments behind
+line_uses (What.Kind name arguments) = []
+line_uses (What.Var variables) = []
+line_uses (What.State name holds settled) = state_uses holds settled
+line_uses (What.Step step) = step_uses step
+line_uses What.End = []
+line_uses (What.Root name kind arguments behind priority) = root_uses kind arguments behind

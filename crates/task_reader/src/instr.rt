@@ -1,7 +1,7 @@
 ghost use Rattle.std.specs.Prelude.{◌≡◌, ◌≤◌, ◌<◌, ◌+◌, ℕ, List as ListOf, length, map, option_map, IfOk};
 ghost use Rattle.task_reader.specs.Program.{number_place, future_place, place_of, operand_of, argument_of, instr_of, steps_to};
 ghost use Rattle.task_reader.specs.Fits.{AreShort, steps_ahead};
-ghost use Rattle.task_reader.specs.Groups.{SetsNumber, SetsFuture, SaysWhere};
+ghost use Rattle.task_lines.specs.Groups.{SetsNumber, SetsFuture, SaysWhere};
 
 use crate::ahead::steps_to;
 use crate::place::{place_of, variable_place};

@@ -5,7 +5,7 @@ ghost use Rattle.task_text.specs.Scan.{is_among as is_among_names};
 ghost use Rattle.task_reader.specs.Names.{Known, known_among, label_names, state_names, uses_known};
 ghost use Rattle.task_reader.specs.Uses.{step_uses, line_uses, root_uses, state_uses};
 ghost use Rattle.task_reader.specs.Fits.{IsShortStep, IsShort};
-ghost use Rattle.task_reader.specs.Groups.{SetsNumber, SetsFuture, SaysWhere};
+ghost use Rattle.task_lines.specs.Groups.{SetsNumber, SetsFuture, SaysWhere};
 ghost use Rattle.task_lines.specs.declared.item.Item.{Item as ItemOf};
 
 use crate::ahead::{has_label, has_state};

@@ -1,13 +1,13 @@
 -- What a parser answers where the words that it is for stand next.
-use Rattle.std.proofs.Common.{◌≡◌, ◌≢◌, ℕ, ◌<◌, Bool, true, false, not, ◌&&◌, cond, List, [], ◌∷◌, ◌++◌, drop, Ok, Err, refl, sym, ◌∙◌, ap, subst, append-nil}
+use Rattle.std.proofs.Common.{◌≡◌, ◌≢◌, ℕ, ◌<◌, Bool, true, false, ◌&&◌, cond, List, [], ◌∷◌, ◌++◌, drop, Ok, Err, refl, sym, ◌∙◌, ap, subst, append-nil}
 use Rattle.std.proofs.lemmas.Bool.{lt-ltb, eq-eqb}
 use Rattle.std.proofs.lemmas.List.{append_assoc}
-use Rattle.task_syntax.specs.Names.{IsName, same_bytes, is_name}
+use Rattle.task_syntax.specs.Names.{same_bytes}
 use Rattle.task_text.specs.declared.fault.Cause.{Cause}
-use Rattle.task_text.specs.declared.fault.Cause.TheVariants.{UnknownWord, BadName, TooMany}
+use Rattle.task_text.specs.declared.fault.Cause.TheVariants.{TooMany}
 use Rattle.task_text.specs.Text.{Word, Row}
-use Rattle.task_text.specs.Scan.{is_missing, is_future, is_among, Scan, start_of, first_of, seen, moved, fault_here, Outcome, Parser, and_then, ◌>>=◌, ◌>>◌, ◌<$>◌, pure, take_word, need, room, fixed, read_name, read_new_name, read_future, eat, each_along, each, one_or_more, ended, without_scan, whole}
-use Rattle.task_text.proofs.Taken.{WordsSpell}
+use Rattle.task_text.specs.Scan.{is_missing, Scan, start_of, first_of, seen, moved, fault_here, Outcome, Parser, and_then, ◌>>=◌, ◌>>◌, ◌<$>◌, pure, take_word, need, room, Test, tested, this_word, fixed, eat, each_along, each, one_or_more, ended, without_scan, whole}
+use Rattle.task_text.proofs.Taken.{seen-is, WordsSpell, AllPass, IsWord, IsItem}
 
 -- the parser answers, and leaves the rest
 pub record Answers {A : Type 0} (p : Parser A) (s : Scan) (a : A) (rest : List Word) : Type 0 where
@@ -41,11 +41,6 @@ room-answers count limit q s b rest t h = record {
   left = h.left;
 }
 
--- the word that stands next
-pub seen-is : (s : Scan) (word : Word) (rest : List Word) → s.left ≡ word ∷ rest → seen s ≡ word
-unfolding seen
-seen-is s word rest e = ap first_of e
-
 pub seen-first : (s : Scan) (words : List Word) → s.left ≡ words → seen s ≡ first_of words
 unfolding seen
 seen-first s words e = ap first_of e
@@ -71,29 +66,21 @@ same-bytes (byte ∷ bytes) = ap (λ b. b && same_bytes bytes bytes) (eq-eqb byt
 seen-same : (s : Scan) (word : Word) (rest : List Word) → s.left ≡ word ∷ rest → same_bytes word (seen s) ≡ true
 seen-same s word rest e = ap (λ w. same_bytes word w) (seen-is s word rest e) ∙ same-bytes word
 
+-- a word that passes the tests is taken
+pub tested-answers : {A : Type 0} (tests : List Test) (f : Word → A) (s : Scan) (word : Word) (rest : List Word) → AllPass tests word → s.left ≡ word ∷ rest
+    → Answers (tested tests f) s (f word) rest
+tested-answers [] f s word rest pass e = take-answers f s word rest e
+tested-answers (test ∷ tests) f s word rest pass e =
+    need-answers test.0 test.1 (tested tests f) s (f word) rest (ap test.0 (seen-is s word rest e) ∙ pass.0) (tested-answers tests f s word rest pass.1 e)
+
 pub fixed-answers : (word : Word) (s : Scan) (rest : List Word) → s.left ≡ word ∷ rest → Answers (fixed word) s tt rest
 unfolding fixed
-fixed-answers word s rest e =
-    then-answers (need (same_bytes word) UnknownWord >> take_word) (λ _. pure tt) s word tt rest rest
-    (need-answers (same_bytes word) UnknownWord take_word s word rest (seen-same s word rest e) (take-answers (λ w. w) s word rest e))
-    (λ t l. pure-answers t tt rest l)
+fixed-answers word s rest e = tested-answers (this_word word) (λ _. tt) s word rest (same-bytes word, tt) e
 
-pub name-answers : (name : List ℕ) → IsName name → (s : Scan) (rest : List Word) → s.left ≡ name ∷ rest → Answers read_name s name rest
-unfolding read_name
-name-answers name is s rest e = need-answers is_name BadName take_word s name rest (ap is_name (seen-is s name rest e) ∙ is) (take-answers (λ w. w) s name rest e)
-
-pub new-name-answers : (cause : Cause) (taken : List (List ℕ)) (name : List ℕ) → IsName name → is_among taken name ≡ false → (s : Scan) (rest : List Word) → s.left ≡ name ∷ rest
-    → Answers (read_new_name cause taken) s name rest
-unfolding read_new_name
-new-name-answers cause taken name is new s rest e =
-    need-answers is_name BadName (need (λ word. not (is_among taken word)) cause >> take_word) s name rest (ap is_name (seen-is s name rest e) ∙ is)
-    (need-answers (λ word. not (is_among taken word)) cause take_word s name rest
-    (ap (λ w. not (is_among taken w)) (seen-is s name rest e) ∙ ap not new) (take-answers (λ w. w) s name rest e))
-
-pub future-answers : (name : List ℕ) → IsName name → (s : Scan) (rest : List Word) → s.left ≡ (64 ∷ name) ∷ rest → Answers read_future s name rest
-unfolding read_future
-future-answers name is s rest e =
-    need-answers is_future BadName (drop 1 <$> take_word) s name rest (ap is_future (seen-is s (64 ∷ name) rest e) ∙ is) (take-answers (drop 1) s (64 ∷ name) rest e)
+pub word-answers : {A : Type 0} (R : Word → A → Type 0) (tests : List Test) (of : Word → A) → IsWord R tests of
+    → (word : Word) (a : A) → R word a → (s : Scan) (rest : List Word) → s.left ≡ word ∷ rest → Answers (tested tests of) s a rest
+word-answers R tests of is word a r s rest e =
+    let h = is.passes word a r in subst (λ b. Answers (tested tests of) s b rest) h.1 (tested-answers tests of s word rest h.0 e)
 
 pub eat-answers : (word : Word) (s : Scan) (rest : List Word) → s.left ≡ word ∷ rest → Answers (eat word) s true rest
 unfolding eat
@@ -117,6 +104,12 @@ eat-nothing word s rest e n = record {
 abbrev pub ItemAnswers : {A : Type 0} → (Word → A → Type 0) → (List A → Type 0) → (List A → Parser A) → Type 0
 ItemAnswers {A} R Holds item = (found : List A) (a : A) (more : List A) (s : Scan) (word : Word) (rest : List Word)
     → Holds (found ++ a ∷ more) → R word a → s.left ≡ word ∷ rest → Answers (item found) s a rest
+
+pub item-answers : {A : Type 0} (R : Word → A → Type 0) (Holds : List A → Type 0) (test : Word → Bool) (tests : List A → List Test) (of : Word → A)
+    → IsItem R Holds test tests of → ItemAnswers R Holds (λ found. tested (tests found) of)
+item-answers R Holds test tests of is found a more s word rest holds r e =
+    let h = is.passes found a more word holds r in
+    subst (λ b. Answers (tested (tests found) of) s b rest) h.1 (tested-answers (tests found) of s word rest h.0 e)
 
 along-end : {A : Type 0} (test : Word → Bool) (item : List A → Parser A) (rest : List Word) (found : List A) (s : Scan) → s.left ≡ rest → test (first_of rest) ≡ false
     → Answers (each_along rest test item found) s found rest

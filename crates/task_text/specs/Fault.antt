@@ -4,7 +4,6 @@ use Rattle.task_text.specs.declared.fault.Cause.{Cause}
 use Rattle.task_text.specs.declared.fault.Cause.TheVariants.{NotText, NoHeader, UnknownWord, BadName, BadNumber, TwiceNamed, UnknownName, TooMany, NoEnd, BackLabel, WordsLeft}
 use Rattle.task_text.specs.declared.fault.Fault.{Fault}
 use Rattle.task_text.specs.declared.fault.TextError.{TextError}
-use Rattle.task_text.specs.declared.fault.TextError.TheVariants as error
 
 -- the number by which a cause is printed
 abbrev pub number_of : Cause → ℕ
@@ -36,5 +35,5 @@ first >> next = first >>= (λ _. next)
 -- the outcome is what the reading gives, seen through `view`, or want of memory
 abbrev pub Gives : {A B : Type 0} → (A → B) → Result A TextError → Result B Fault → Type 0
 Gives view (Ok a) reading = reading ≡ Ok (view a)
-Gives view (Err (error.Fault fault)) reading = reading ≡ Err fault
-Gives view (Err error.Memory) reading = Unit {0}
+Gives view (Err (TextError.Fault fault)) reading = reading ≡ Err fault
+Gives view (Err TextError.Memory) reading = Unit {0}

@@ -8,7 +8,6 @@ use Rattle.task_text.specs.declared.fault.Cause.{Cause}
 use Rattle.task_text.specs.declared.fault.Cause.TheVariants.{NotText, UnknownWord, BadName, BadNumber, TooMany, WordsLeft}
 use Rattle.task_text.specs.declared.fault.Fault.{Fault}
 use Rattle.task_text.specs.declared.fault.TextError.{TextError}
-use Rattle.task_text.specs.declared.fault.TextError.TheVariants as error
 use Rattle.task_text.specs.Fault.{fault_at}
 use Rattle.task_text.specs.Text.{Word, Row}
 
@@ -130,36 +129,55 @@ refuse cause = λ s. Err (fault_here cause s)
 unfoldable pub need : (Word → Bool) → Cause → Parser (Unit {0})
 need test cause = λ s. if test (seen s) then Ok (tt, s) else Err (fault_here cause s)
 
+-- a test of a word, and the cause where the word does not pass
+abbrev pub Test : Type 0
+Test = (Word → Bool) × Cause
+
+-- the next word passes the tests, one after the other, and is taken
+abbrev pub tested : {A : Type 0} → List Test → (Word → A) → Parser A
+tested [] f = f <$> take_word
+tested (test ∷ tests) f = need test.0 test.1 >> tested tests f
+
+-- what comes next is not past its limit
+abbrev pub within : ℕ → ℕ → Test
+within count limit = (λ word. nat_lt count limit, TooMany)
+
 -- what is read next is not past its limit
 unfoldable pub room : ℕ → ℕ → Parser (Unit {0})
 room count limit = λ s. if nat_lt count limit then Ok (tt, s) else Err (fault_here TooMany s)
 
 -- ---- single words
 
+abbrev pub this_word : Word → List Test
+this_word word = (same_bytes word, UnknownWord) ∷ []
+
+abbrev pub a_name : List Test
+a_name = (is_name, BadName) ∷ []
+
+-- a name that is none of those taken
+abbrev pub new_name : Cause → List (List ℕ) → List Test
+new_name cause taken = (is_name, BadName) ∷ (λ word. not (is_among taken word), cause) ∷ []
+
+abbrev pub a_future : List Test
+a_future = (is_future, BadName) ∷ []
+
 -- this very word
 unfoldable pub fixed : Word → Parser (Unit {0})
-fixed word = need (same_bytes word) UnknownWord >> take_word >> pure tt
+fixed word = tested (this_word word) (λ _. tt)
 
 unfoldable pub read_name : Parser (List ℕ)
-read_name = need is_name BadName >> take_word
+read_name = tested a_name (λ word. word)
 
 -- a name that is none of those given
 unfoldable pub read_new_name : Cause → List (List ℕ) → Parser (List ℕ)
-read_new_name cause taken = do
-  need is_name BadName
-  need (λ word. not (is_among taken word)) cause
-  take_word
+read_new_name cause taken = tested (new_name cause taken) (λ word. word)
 
 unfoldable pub read_number : Parser ℕ
-read_number = do
-  need is_number BadNumber
-  digits_value 10 <$> take_word
+read_number = tested ((is_number, BadNumber) ∷ []) (digits_value 10)
 
 -- the name of a future, without its `@`
 unfoldable pub read_future : Parser (List ℕ)
-read_future = do
-  need is_future BadName
-  drop 1 <$> take_word
+read_future = tested a_future (drop 1)
 
 -- the word, if it comes next
 unfoldable pub eat : Word → Parser Bool
@@ -213,5 +231,5 @@ Scans outcome (Err fault) new = outcome ≡ Err fault
 -- the same, unless memory fails
 abbrev pub Reads : {A : Type 0} → Outcome A → Result A TextError → Scan → Type 0
 Reads outcome (Ok a) new = outcome ≡ Ok (a, new)
-Reads outcome (Err (error.Fault fault)) new = outcome ≡ Err fault
-Reads outcome (Err error.Memory) new = Unit {0}
+Reads outcome (Err (TextError.Fault fault)) new = outcome ≡ Err fault
+Reads outcome (Err TextError.Memory) new = Unit {0}

@@ -1,9 +1,5 @@
 -- The text of a well-formed program is canonical.
-use Rattle.task_writer.proofs.Vocabulary.{◌≡◌, ◌≢◌, ℕ, true, false, List, [], ◌∷◌, ◌++◌, map, take, drop, refl, sym, ◌∙◌, ap, subst, arith, append_assoc, append-nil, codes, flat_map, join_with_byte, decimal_digit, IsWellFormed, MathOp, Line, Variable, State, Kind, Root, Program, Word, same-bytes, same_bytes, first_of, Step, What, Scope, first_scope, after, operation_word, line_words, spaced, parted, line_text, header_words, text_of_lines, text_of, IsTidy, AllTidy, EachTidy, Opens, EachNext, IsCanonical}
-use Rattle.task_syntax.specs.declared.instr.MathOp.TheVariants as op
-use Rattle.task_lines.specs.declared.step.Step.TheVariants.{Set, Math, If, Goto, Label, Cell, Rows, Spawn, All, Copy, Drop, Get, Again, Done}
-use Rattle.task_lines.specs.declared.item.What.TheVariants as what
-use Rattle.task_writer.specs.Lines.{Names, kind_names, root_names, names_in, step_of, code_lines, state_lines, var_lines, kind_lines, root_line, lines_of_program}
+use Rattle.task_writer.proofs.Vocabulary.{◌≡◌, ◌≢◌, ℕ, true, false, List, [], ◌∷◌, ◌++◌, map, take, drop, refl, sym, ◌∙◌, ap, subst, arith, append_assoc, append-nil, codes, flat_map, join_with_byte, decimal_digit, IsWellFormed, MathOp, Line, Variable, State, Kind, Root, Program, Word, same-bytes, same_bytes, first_of, Step, What, Scope, first_scope, after, operation_word, line_words, spaced, parted, line_text, header_words, text_of_lines, text_of, IsTidy, AllTidy, EachTidy, Opens, EachNext, IsCanonical, Set, Math, Names, kind_names, root_names, names_in, step_of, code_lines, state_lines, var_lines, kind_lines, root_line, lines_of_program, ◌+◌}
 use Rattle.task_writer.proofs.PlainLines.{fixed-tidy, line-tidy, line-begun}
 use Rattle.task_writer.proofs.StandingCode.{Stands}
 use Rattle.task_writer.proofs.StandingKinds.{lines-stand}
@@ -36,9 +32,9 @@ text-parted p =
 
 -- ---- tidy words
 
-each-tidy : (ws : List What) (s : Scope) → Stands s ws → EachTidy (map line_words ws)
-each-tidy [] s h = tt
-each-tidy (w ∷ ws) s h = (line-begun w, line-tidy w h.0, each-tidy ws (after s w) h.2)
+each-tidy : (kinds : List (List ℕ)) (ws : List What) (s : Scope) (m : ℕ) → Stands kinds s m ws → EachTidy (map line_words ws)
+each-tidy kinds [] s m h = tt
+each-tidy kinds (w ∷ ws) s m h = (line-begun w, line-tidy w h.0, each-tidy kinds ws (after s w) (m + 1) h.3)
 
 one-tidy : IsTidy (codes "1")
 one-tidy = record {
@@ -64,30 +60,16 @@ neither : (word : Word) → same_bytes word (codes "var") ≡ false → same_byt
 neither word v r = (apart word (codes "var") v, apart word (codes "root") r)
 
 operation-open : (operation : MathOp) → IsNeither (operation_word operation)
-operation-open op.Add = neither (codes "add") refl refl
-operation-open op.Sub = neither (codes "sub") refl refl
-operation-open op.Mul = neither (codes "mul") refl refl
-operation-open op.Div = neither (codes "div") refl refl
-operation-open op.Rem = neither (codes "rem") refl refl
+operation-open MathOp.Add = neither _ refl refl
+operation-open _ = neither _ refl refl
 
 abbrev pub IsInner : What → Type 0
 IsInner w = IsNeither (first_of (line_words w))
 
-pub step-inner : (s : Step) → IsInner (what.Step s)
+pub step-inner : (s : Step) → IsInner (What.Step s)
 step-inner (Math operation to left right) = operation-open operation
-step-inner (Set to value) = neither (codes "set") refl refl
-step-inner (If relation left right target) = neither (codes "if") refl refl
-step-inner (Goto target) = neither (codes "goto") refl refl
-step-inner (Label name) = neither (codes "label") refl refl
-step-inner (Cell to column row) = neither (codes "cell") refl refl
-step-inner (Rows to column) = neither (codes "rows") refl refl
-step-inner (Spawn to kind arguments behind priority retry) = neither (codes "spawn") refl refl
-step-inner (All to members priority retry) = neither (codes "all") refl refl
-step-inner (Copy to source) = neither (codes "copy") refl refl
-step-inner (Drop future) = neither (codes "drop") refl refl
-step-inner (Get to future) = neither (codes "get") refl refl
-step-inner (Again target behind priority) = neither (codes "again") refl refl
-step-inner (Done value) = neither (codes "done") refl refl
+step-inner (Set to value) = neither _ refl refl
+step-inner _ = neither _ refl refl
 
 abbrev pub VarBehindKind : List Word → List Word → Type 0
 VarBehindKind line next = Opens (codes "var") next → Opens (codes "kind") line
@@ -108,7 +90,7 @@ inner-first w ws i o = record {
 
 code-ordered : (n : Names) (code : List Line) (tail : List What) → AreOrdered tail → AreOrdered (code_lines n code ++ tail)
 code-ordered n [] tail o = o
-code-ordered n (l ∷ code) tail o = inner-first (what.Step (step_of n l.instr)) (code_lines n code ++ tail) (step-inner (step_of n l.instr)) (code-ordered n code tail o)
+code-ordered n (l ∷ code) tail o = inner-first (What.Step (step_of n l.instr)) (code_lines n code ++ tail) (step-inner (step_of n l.instr)) (code-ordered n code tail o)
 
 states-ordered : (kinds : List (List ℕ)) (kind : Kind) (states : List State) (tail : List What) → AreOrdered tail → AreOrdered (flat_map (state_lines kinds kind) states ++ tail)
 unfolding state_lines
@@ -119,11 +101,11 @@ states-ordered kinds kind (state ∷ states) tail o =
     subst AreOrdered (sym (append_assoc (state_lines kinds kind state) more tail))
     (inner-first _ (lines ++ (more ++ tail)) (neither (codes "state") refl refl) (code-ordered (names_in kinds kind state) state.code (more ++ tail) (states-ordered kinds kind states tail o)))
 
-var-ordered : (name : List ℕ) (arguments locals : List Variable) (tail : List What) → AreOrdered tail → AreOrdered (what.Kind name arguments ∷ (var_lines locals ++ tail))
-var-ordered name arguments [] tail o = inner-first (what.Kind name arguments) tail (neither (codes "kind") refl refl) o
+var-ordered : (name : List ℕ) (arguments locals : List Variable) (tail : List What) → AreOrdered tail → AreOrdered (What.Kind name arguments ∷ (var_lines locals ++ tail))
+var-ordered name arguments [] tail o = inner-first (What.Kind name arguments) tail (neither (codes "kind") refl refl) o
 var-ordered name arguments (v ∷ vs) tail o = record {
-  one_var = λ line. ((λ opens. absurd (apart (codes "kind") (codes "var") refl opens)), ((λ opens. refl), o.one_var (line_words (what.Var (v ∷ vs)))));
-  roots_last = λ line n. ((λ opens. absurd (n opens)), ((λ opens. absurd (apart (codes "kind") (codes "root") refl opens)), o.roots_last (line_words (what.Var (v ∷ vs))) (apart (codes "var") (codes "root") refl)));
+  one_var = λ line. ((λ opens. absurd (apart (codes "kind") (codes "var") refl opens)), ((λ opens. refl), o.one_var (line_words (What.Var (v ∷ vs)))));
+  roots_last = λ line n. ((λ opens. absurd (n opens)), ((λ opens. absurd (apart (codes "kind") (codes "root") refl opens)), o.roots_last (line_words (What.Var (v ∷ vs))) (apart (codes "var") (codes "root") refl)));
 }
 
 kinds-ordered : (names : List (List ℕ)) (kinds : List Kind) (tail : List What) → AreOrdered tail → AreOrdered (flat_map (kind_lines names) kinds ++ tail)
@@ -133,11 +115,11 @@ kinds-ordered names (kind ∷ kinds) tail o =
     let more = flat_map (kind_lines names) kinds ++ tail in
     let states = flat_map (state_lines names kind) kind.states in
     let locals = var_lines (drop kind.arguments kind.variables) in
-    let head = what.Kind kind.name (take kind.arguments kind.variables) in
+    let head = What.Kind kind.name (take kind.arguments kind.variables) in
     subst AreOrdered
-    (sym (append_assoc (kind_lines names kind) (flat_map (kind_lines names) kinds) tail ∙ ap (λ ws. head ∷ ws) (append_assoc locals (states ++ what.End ∷ []) more ∙ ap (λ ws. locals ++ ws) (append_assoc states (what.End ∷ []) more))))
-    (var-ordered kind.name (take kind.arguments kind.variables) (drop kind.arguments kind.variables) (states ++ (what.End ∷ more))
-    (states-ordered names kind kind.states (what.End ∷ more) (inner-first what.End more (neither (codes "end") refl refl) (kinds-ordered names kinds tail o))))
+    (sym (append_assoc (kind_lines names kind) (flat_map (kind_lines names) kinds) tail ∙ ap (λ ws. head ∷ ws) (append_assoc locals (states ++ What.End ∷ []) more ∙ ap (λ ws. locals ++ ws) (append_assoc states (What.End ∷ []) more))))
+    (var-ordered kind.name (take kind.arguments kind.variables) (drop kind.arguments kind.variables) (states ++ (What.End ∷ more))
+    (states-ordered names kind kind.states (What.End ∷ more) (inner-first What.End more (neither (codes "end") refl refl) (kinds-ordered names kinds tail o))))
 
 roots-ordered : (names roots : List (List ℕ)) (rs : List Root) → AreOrdered (map (root_line names roots) rs)
 unfolding root_line
@@ -154,11 +136,14 @@ program-ordered : (p : Program) → AreOrdered (lines_of_program p)
 unfolding lines_of_program
 program-ordered p = kinds-ordered (kind_names p.kinds) p.kinds _ (roots-ordered (kind_names p.kinds) (root_names p.roots) p.roots)
 
+pub lines-tidy : (p : Program) → IsWellFormed p → EachTidy (header_words ∷ map line_words (lines_of_program p))
+lines-tidy p formed = ((λ e. cc), header-tidy, each-tidy (kind_names p.kinds) (lines_of_program p) first_scope 2 (lines-stand p formed))
+
 pub is_canonical : (p : Program) → IsWellFormed p → IsCanonical (text_of p)
 is_canonical p formed = record {
   lines = header_words ∷ map line_words (lines_of_program p);
   parted = text-parted p;
-  tidy = ((λ e. cc), header-tidy, each-tidy (lines_of_program p) first_scope (lines-stand p formed));
+  tidy = lines-tidy p formed;
   one_var = (program-ordered p).one_var header_words;
   roots_last = (program-ordered p).roots_last header_words (apart (codes "ktask") (codes "root") refl);
 }

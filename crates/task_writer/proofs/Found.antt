@@ -5,9 +5,6 @@ pub get-behind : {A : Type 0} (front back : List A) (i : ℕ) → slice_get (fro
 get-behind [] back i = let e : 0 + i ≡ i = omega arith in ap (slice_get back) e
 get-behind (x ∷ front) back i = let e : suc (length front) + i ≡ suc (length front + i) = omega arith in ap (slice_get (x ∷ (front ++ back))) e ∙ get-behind front back i
 
-pub get-here : {A : Type 0} (front : List A) (x : A) (back : List A) → slice_get (front ++ x ∷ back) (length front) ≡ Some x
-get-here front x back = let e : length front ≡ length front + 0 = omega arith in ap (slice_get (front ++ x ∷ back)) e ∙ get-behind front (x ∷ back) 0
-
 pub get-next : {A : Type 0} (front : List A) (x y : A) (back : List A) → slice_get (front ++ x ∷ y ∷ back) (length front + 1) ≡ Some y
 get-next front x y back = get-behind front (x ∷ y ∷ back) 1
 

@@ -3,8 +3,6 @@ pub mod WrittenParts
 pub mod CanonicalText
 pub mod Found
 pub mod Itemized
-pub mod KnownKinds
-pub mod KnownLines
 pub mod KnownSteps
 pub mod Named
 pub mod PlainLines

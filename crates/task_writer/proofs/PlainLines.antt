@@ -1,13 +1,7 @@
--- The words of a line that may be written are tidy.
-use Rattle.task_writer.proofs.Vocabulary.{◌≡◌, ◌≢◌, ℕ, ◌<◌, ◌≤◌, ◌^◌, Bool, true, false, not, ◌&&◌, ◌||◌, nat_le, nat_eq, Option, Some, None, List, [], ◌∷◌, ◌++◌, map, length, refl, sym, subst, ◌∙◌, ap, arith, inl, inr, codes, decimal, IfSome, list_all, le-leb, eqb-true, is_between, is_letter, is_digit, is_name_byte, is_reserved, begins_with_letter, IsName, Sort, Variable, MathOp, Relation, Less, AtMost, Equal, Differs, Priority, High, Regular, Low, both, either, Word, begins_with_digit, Term, Passed, RootTerm, What, operation_word, between, all-pass, Part, GotoWord, AName, ANewName, ATarget, ATerm, ARelation, AFuture, KindVariables, MoreVariables, Arguments, RootArguments, Members, HeldFutures, SettledFutures, Predecessor, APriority, LastPriority, ARetry, Of, Values, entry, future_word, relation_word, behind_words, retry_words, term_word, passed_word, root_term_word, variable_word, futures_words, priority_words, line_words, is_plain, IsTidy, AllTidy}
-use Rattle.task_syntax.specs.declared.program.Sort.TheVariants as sort
-use Rattle.task_syntax.specs.declared.instr.MathOp.TheVariants as op
-use Rattle.task_lines.specs.declared.step.Term.TheVariants as term
-use Rattle.task_lines.specs.declared.step.Passed.TheVariants as passed
-use Rattle.task_lines.specs.declared.step.Step.TheVariants.{Set, Math}
-use Rattle.task_lines.specs.declared.item.RootTerm.TheVariants as root_term
-use Rattle.task_lines.specs.declared.item.What.TheVariants as what
-use Rattle.task_writer.proofs.Writable.{AllOf, IsWritableTerm, IsWritablePassed, IsWritableRootTerm, IsWritableVariable, IsWritablePart, AreWritable, IsWritable, decimal-digits, decimal-begun}
+-- The words of a line that may be written spell it, and are tidy.
+use Rattle.task_writer.proofs.Vocabulary.{◌≡◌, ◌≢◌, ℕ, ◌<◌, ◌≤◌, ◌^◌, Bool, true, false, not, ◌&&◌, ◌||◌, nat_le, nat_eq, Option, Some, None, List, [], ◌∷◌, ◌++◌, map, length, refl, sym, subst, ◌∙◌, ap, arith, inl, inr, codes, decimal, IfSome, list_all, le-leb, eqb-true, is_between, is_letter, is_digit, is_name_byte, is_reserved, begins_with_letter, IsName, Sort, Variable, MathOp, Relation, Less, AtMost, Equal, Differs, Priority, High, Regular, Low, both, either, Word, begins_with_digit, Term, Passed, RootTerm, What, operation_word, between, all-pass, Part, GotoWord, AName, ANewName, ATarget, ATerm, ARelation, AFuture, KindVariables, MoreVariables, Arguments, RootArguments, Members, HeldFutures, SettledFutures, Predecessor, APriority, LastPriority, ARetry, Of, Values, entry, future_word, relation_word, behind_words, retry_words, term_word, passed_word, root_term_word, variable_word, futures_words, priority_words, line_words, is_plain, IsTidy, AllTidy, Set, Math, Choice, Choices, part_words, append-nil, EachSpells, SpellsFuture, SpellsTerm, SpellsPassed, SpellsRootTerm, SpellsVariable, SpellsFutures, SpellsPriority, Spells}
+use Rattle.task_writer.proofs.Writable.{AllOf, IsWritableTerm, IsWritablePassed, IsWritableRootTerm, IsWritableVariable, IsWritablePart, AreWritable, IsWritable, decimal-digits, decimal-begun, number-spelled}
+use Rattle.task_lines.specs.Table.{words_of}
 use Rattle.task_writer.proofs.WrittenParts.{part_written, parts_written, written}
 
 -- ---- bytes
@@ -112,27 +106,34 @@ fixed-tidy (byte ∷ bytes) h =
       test [] = false
       test (byte ∷ bytes) = nat_eq byte 114 && nat_eq (length bytes) 6
 
-term-tidy : (t : Term) → IsWritableTerm t → IsTidy (term_word t)
-term-tidy (term.Literal n) h = number-tidy n h
-term-tidy (term.Variable name) h = name-tidy name h
+-- what is written spells what it is of, and is tidy
+abbrev IsFine : {A : Type 0} → (Word → A → Type 0) → (A → Word) → A → Type 0
+IsFine R w a = R (w a) a × IsTidy (w a)
 
-passed-tidy : (a : Passed) → IsWritablePassed a → IsTidy (passed_word a)
-passed-tidy (passed.Number t) h = term-tidy t h
-passed-tidy (passed.Future name) h = future-tidy name h
+future-fine : (name : List ℕ) → IsName name → IsFine SpellsFuture future_word name
+future-fine name h = ((refl, h), future-tidy name h)
 
-root-term-tidy : (a : RootTerm) → IsWritableRootTerm a → IsTidy (root_term_word a)
-root-term-tidy (root_term.Number n) h = number-tidy n h
-root-term-tidy (root_term.Root name) h = future-tidy name h
+term-fine : (t : Term) → IsWritableTerm t → IsFine SpellsTerm term_word t
+term-fine (Term.Literal n) h = (number-spelled n h, number-tidy n h)
+term-fine (Term.Variable name) h = ((refl, h), name-tidy name h)
 
-by-sort : (name : List ℕ) (s : Sort) → IsName name → let v : Variable = record { name = name; sort = s } in IsTidy (variable_word v)
-by-sort name sort.Number h = name-tidy name h
-by-sort name sort.Future h = future-tidy name h
+passed-fine : (a : Passed) → IsWritablePassed a → IsFine SpellsPassed passed_word a
+passed-fine (Passed.Number t) h = term-fine t h
+passed-fine (Passed.Future name) h = future-fine name h
 
-variable-tidy : (v : Variable) → IsWritableVariable v → IsTidy (variable_word v)
-variable-tidy v h = by-sort v.name v.sort h
+root-term-fine : (a : RootTerm) → IsWritableRootTerm a → IsFine SpellsRootTerm root_term_word a
+root-term-fine (RootTerm.Number n) h = (number-spelled n h, number-tidy n h)
+root-term-fine (RootTerm.Root name) h = future-fine name h
+
+by-sort : (name : List ℕ) (s : Sort) → IsName name → IsFine SpellsVariable variable_word (record { name = name; sort = s })
+by-sort name Sort.Number h = ((refl, h), name-tidy name h)
+by-sort name Sort.Future h = future-fine name h
+
+variable-fine : (v : Variable) → IsWritableVariable v → IsFine SpellsVariable variable_word v
+variable-fine v h = by-sort v.name v.sort h
 
 operation-fixed : (operation : MathOp) → is_fixed (operation_word operation) ≡ true
-operation-fixed op.Add = refl
+operation-fixed MathOp.Add = refl
 operation-fixed _ = refl
 
 relation-tidy : (relation : Relation) → IsTidy (relation_word relation)
@@ -147,22 +148,25 @@ append-tidy : (xs ys : List Word) → AllTidy xs → AllTidy ys → AllTidy (xs 
 append-tidy [] ys g h = h
 append-tidy (x ∷ xs) ys g h = (g.0, append-tidy xs ys g.1 h)
 
-each-tidy : {A : Type 0} (P : A → Type 0) (w : A → Word) → ((a : A) → P a → IsTidy (w a)) → (xs : List A) → AllOf P xs → AllTidy (map w xs)
-each-tidy P w one [] h = tt
-each-tidy P w one (a ∷ xs) h = (one a h.0, each-tidy P w one xs h.1)
+each-fine : {A : Type 0} (R : Word → A → Type 0) (P : A → Type 0) (w : A → Word) → ((a : A) → P a → IsFine R w a)
+    → (xs : List A) → AllOf P xs → EachSpells R (map w xs) xs × AllTidy (map w xs)
+each-fine R P w one [] h = (tt, tt)
+each-fine R P w one (a ∷ xs) h = let f = one a h.0 in let more = each-fine R P w one xs h.1 in ((f.0, more.0), (f.1, more.1))
 
-futures-tidy : (opening : Word) → IsTidy opening → (names : List (List ℕ)) → AllOf IsName names → AllTidy (futures_words opening names)
-futures-tidy opening o [] h = tt
-futures-tidy opening o (name ∷ names) h = (o, each-tidy IsName future_word future-tidy (name ∷ names) h)
+futures-fine : (opening : Word) → IsTidy opening → (names : List (List ℕ)) → AllOf IsName names
+    → SpellsFutures opening (futures_words opening names) names × AllTidy (futures_words opening names)
+futures-fine opening o [] h = (refl, tt)
+futures-fine opening o (name ∷ names) h =
+    let f = each-fine SpellsFuture IsName future_word future-fine (name ∷ names) h in ((map future_word (name ∷ names), refl, f.0), (o, f.1))
 
 behind-tidy : (behind : Option (List ℕ)) → IfSome behind IsName → AllTidy (behind_words behind)
 behind-tidy None h = tt
 behind-tidy (Some name) h = (fixed-tidy (codes "behind") refl, (future-tidy name h, tt))
 
-priority-tidy : (priority : Priority) → AllTidy (priority_words priority)
-priority-tidy High = (fixed-tidy (codes "high") refl, tt)
-priority-tidy Regular = tt
-priority-tidy Low = (fixed-tidy (codes "low") refl, tt)
+priority-fine : (priority : Priority) → SpellsPriority (priority_words priority) priority × AllTidy (priority_words priority)
+priority-fine High = (inl refl, (fixed-tidy (codes "high") refl, tt))
+priority-fine Regular = (inr (refl, refl), tt)
+priority-fine Low = (inl refl, (fixed-tidy (codes "low") refl, tt))
 
 retry-tidy : (retry : Bool) → AllTidy (retry_words retry)
 retry-tidy true = (fixed-tidy (codes "retry") refl, tt)
@@ -170,40 +174,56 @@ retry-tidy false = tt
 
 -- ---- lines
 
-part-tidy : (part : Part) (v : Of part) → IsWritablePart part v → AllTidy (part_written part v)
-part-tidy GotoWord v h = (fixed-tidy (codes "goto") refl, tt)
-part-tidy AName name h = (name-tidy name h, tt)
-part-tidy (ANewName named) name h = (name-tidy name h, tt)
-part-tidy ATarget name h = (name-tidy name h, tt)
-part-tidy ATerm t h = (term-tidy t h, tt)
-part-tidy ARelation relation h = (relation-tidy relation, tt)
-part-tidy AFuture name h = (future-tidy name h, tt)
-part-tidy KindVariables variables h = each-tidy IsWritableVariable variable_word variable-tidy variables h
-part-tidy MoreVariables variables h = each-tidy IsWritableVariable variable_word variable-tidy variables h.1
-part-tidy Arguments arguments h = each-tidy IsWritablePassed passed_word passed-tidy arguments h
-part-tidy RootArguments arguments h = each-tidy IsWritableRootTerm root_term_word root-term-tidy arguments h
-part-tidy Members members h = each-tidy IsName future_word future-tidy members h.1
-part-tidy HeldFutures names h = futures-tidy (codes "holds") (fixed-tidy (codes "holds") refl) names h
-part-tidy SettledFutures names h = futures-tidy (codes "settled") (fixed-tidy (codes "settled") refl) names h
-part-tidy Predecessor behind h = behind-tidy behind h
-part-tidy APriority priority h = priority-tidy priority
-part-tidy LastPriority priority h = priority-tidy priority
-part-tidy ARetry retry h = retry-tidy retry
+-- the words that are written of a part spell it, and are tidy
+part-fine : (part : Part) (v : Of part) → IsWritablePart part v → ((c : Choice part v) × (part_written part v ≡ part_words part v c)) × AllTidy (part_written part v)
+part-fine GotoWord v h = ((tt, refl), (fixed-tidy (codes "goto") refl, tt))
+part-fine AName name h = ((h, refl), (name-tidy name h, tt))
+part-fine (ANewName named) name h = ((h, refl), (name-tidy name h, tt))
+part-fine ATarget name h = ((h, refl), (name-tidy name h, tt))
+part-fine ATerm t h = let f = term-fine t h in (((term_word t, f.0), refl), (f.1, tt))
+part-fine ARelation relation h = ((tt, refl), (relation-tidy relation, tt))
+part-fine AFuture name h = ((h, refl), (future-tidy name h, tt))
+part-fine KindVariables variables h =
+    let f = each-fine SpellsVariable IsWritableVariable variable_word variable-fine variables h in (((map variable_word variables, f.0), refl), f.1)
+part-fine MoreVariables variables h =
+    let f = each-fine SpellsVariable IsWritableVariable variable_word variable-fine variables h.1 in (((map variable_word variables, h.0, f.0), refl), f.1)
+part-fine Arguments arguments h =
+    let f = each-fine SpellsPassed IsWritablePassed passed_word passed-fine arguments h in (((map passed_word arguments, f.0), refl), f.1)
+part-fine RootArguments arguments h =
+    let f = each-fine SpellsRootTerm IsWritableRootTerm root_term_word root-term-fine arguments h in (((map root_term_word arguments, f.0), refl), f.1)
+part-fine Members members h =
+    let f = each-fine SpellsFuture IsName future_word future-fine members h.1 in (((map future_word members, h.0, f.0), refl), f.1)
+part-fine HeldFutures names h =
+    let f = futures-fine (codes "holds") (fixed-tidy (codes "holds") refl) names h in (((futures_words (codes "holds") names, f.0), refl), f.1)
+part-fine SettledFutures names h =
+    let f = futures-fine (codes "settled") (fixed-tidy (codes "settled") refl) names h in (((futures_words (codes "settled") names, f.0), refl), f.1)
+part-fine Predecessor behind h = (((behind_words behind, (refl, h)), refl), behind-tidy behind h)
+part-fine APriority priority h = let f = priority-fine priority in (((priority_words priority, f.0), refl), f.1)
+part-fine LastPriority priority h = let f = priority-fine priority in (((priority_words priority, f.0), refl), f.1)
+part-fine ARetry retry h = ((tt, refl), retry-tidy retry)
 
-parts-tidy : (ps : List Part) (vs : Values ps) → AreWritable ps vs → AllTidy (parts_written ps vs)
-parts-tidy [] vs h = tt
-parts-tidy (part ∷ []) vs h = part-tidy part vs.0 h.0
-parts-tidy (part ∷ next ∷ ps) vs h = append-tidy (part_written part vs.0) (parts_written (next ∷ ps) vs.1) (part-tidy part vs.0 h.0) (parts-tidy (next ∷ ps) vs.1 h.1)
+parts-fine : (ps : List Part) (vs : Values ps) → AreWritable ps vs → ((c : Choices ps vs) × (parts_written ps vs ≡ words_of ps vs c [])) × AllTidy (parts_written ps vs)
+parts-fine [] vs h = ((tt, refl), tt)
+parts-fine (part ∷ []) vs h = let one = part-fine part vs.0 h.0 in (((one.0.0, tt), one.0.1 ∙ sym (append-nil (part_words part vs.0 one.0.0))), one.1)
+parts-fine (part ∷ next ∷ ps) vs h =
+    let one = part-fine part vs.0 h.0 in
+    let more = parts-fine (next ∷ ps) vs.1 h.1 in (
+      ((one.0.0, more.0.0), ap (λ ws. ws ++ parts_written (next ∷ ps) vs.1) one.0.1 ∙ ap (λ ws. part_words part vs.0 one.0.0 ++ ws) more.0.1),
+      append-tidy (part_written part vs.0) (parts_written (next ∷ ps) vs.1) one.1 more.1,
+    )
+
+pub line-spelled : (w : What) → IsWritable w → Spells (line_words w) w
+line-spelled w h = let p = parts-fine (entry w).parts (entry w).values h in (p.0.0, written w ∙ ap (λ ws. (entry w).word ∷ ws) p.0.1)
 
 first-fixed : (w : What) → is_fixed (entry w).word ≡ true
-first-fixed (what.Step (Math operation to left right)) = operation-fixed operation
-first-fixed (what.Kind name arguments) = refl
-first-fixed (what.Step (Set to value)) = refl
-first-fixed (what.Step _) = refl
+first-fixed (What.Step (Math operation to left right)) = operation-fixed operation
+first-fixed (What.Kind name arguments) = refl
+first-fixed (What.Step (Set to value)) = refl
+first-fixed (What.Step _) = refl
 first-fixed _ = refl
 
 pub line-tidy : (w : What) → IsWritable w → AllTidy (line_words w)
-line-tidy w h = subst AllTidy (sym (written w)) (fixed-tidy (entry w).word (first-fixed w), parts-tidy (entry w).parts (entry w).values h)
+line-tidy w h = subst AllTidy (sym (written w)) (fixed-tidy (entry w).word (first-fixed w), (parts-fine (entry w).parts (entry w).values h).1)
 
 pub line-begun : (w : What) → line_words w ≢ []
 line-begun w e = let c : (entry w).word ∷ parts_written (entry w).parts (entry w).values ≡ [] = sym (written w) ∙ e in cc

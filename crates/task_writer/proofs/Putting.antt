@@ -13,37 +13,33 @@ more-words : (o a b : List ℕ) (xs ys : List Word) → a ≡ o ++ spaced xs →
 more-words o a b xs ys p q = more o a b (spaced xs) (spaced ys) p q ∙ ap (λ z. o ++ z) (sym (spaced-append xs ys))
 
 -- a first word, further words, and the end
-whole-line : (o a b c : List ℕ) (word : Word) (words : List Word) → a ≡ o ++ word → b ≡ a ++ spaced words → c ≡ b ++ 10 ∷ [] → c ≡ o ++ line_text (word ∷ words)
+pub line-1 : (o a b c : List ℕ) (word : Word) (words : List Word) → a ≡ o ++ word → b ≡ a ++ spaced words → c ≡ b ++ 10 ∷ [] → c ≡ o ++ line_text (word ∷ words)
 unfolding line_text parted
-whole-line o a b c word words p q r = more o b c (word ++ spaced words) (10 ∷ []) (more o a b word (spaced words) p q) r
+line-1 o a b c word words p q r = more o b c (word ++ spaced words) (10 ∷ []) (more o a b word (spaced words) p q) r
 
 pub line-0 : (o a b : List ℕ) (w : Word) → a ≡ o ++ w → b ≡ a ++ 10 ∷ [] → b ≡ o ++ line_text (w ∷ [])
 unfolding spaced
-line-0 o a b w p q = whole-line o a a b w [] p (sym (append-nil a)) q
-
--- one list of words behind the first word
-pub line-1 : (o a b c : List ℕ) (w : Word) (xs : List Word) → a ≡ o ++ w → b ≡ a ++ spaced xs → c ≡ b ++ 10 ∷ [] → c ≡ o ++ line_text (w ∷ xs)
-line-1 o a b c w xs p q r = whole-line o a b c w xs p q r
+line-0 o a b w p q = line-1 o a a b w [] p (sym (append-nil a)) q
 
 -- a word and a list
 pub line-2 : (o a b c d : List ℕ) (w x : Word) (ys : List Word) → a ≡ o ++ w → b ≡ a ++ spaced (x ∷ []) → c ≡ b ++ spaced ys → d ≡ c ++ 10 ∷ [] → d ≡ o ++ line_text (w ∷ x ∷ ys)
-line-2 o a b c d w x ys p q r s = whole-line o a c d w (x ∷ ys) p (more-words a b c (x ∷ []) ys q r) s
+line-2 o a b c d w x ys p q r s = line-1 o a c d w (x ∷ ys) p (more-words a b c (x ∷ []) ys q r) s
 
 -- two words and a list
 pub line-3 : (o a b c d e : List ℕ) (w x y : Word) (zs : List Word) → a ≡ o ++ w → b ≡ a ++ spaced (x ∷ []) → c ≡ b ++ spaced (y ∷ []) → d ≡ c ++ spaced zs → e ≡ d ++ 10 ∷ []
     → e ≡ o ++ line_text (w ∷ x ∷ y ∷ zs)
-line-3 o a b c d e w x y zs p q r s t = whole-line o a d e w (x ∷ y ∷ zs) p (more-words a b d (x ∷ []) (y ∷ zs) q (more-words b c d (y ∷ []) zs r s)) t
+line-3 o a b c d e w x y zs p q r s t = line-1 o a d e w (x ∷ y ∷ zs) p (more-words a b d (x ∷ []) (y ∷ zs) q (more-words b c d (y ∷ []) zs r s)) t
 
 -- a word and two lists
 pub line-2-2 : (o a b c d e : List ℕ) (w x : Word) (ys zs : List Word) → a ≡ o ++ w → b ≡ a ++ spaced (x ∷ []) → c ≡ b ++ spaced ys → d ≡ c ++ spaced zs → e ≡ d ++ 10 ∷ []
     → e ≡ o ++ line_text (w ∷ x ∷ (ys ++ zs))
-line-2-2 o a b c d e w x ys zs p q r s t = whole-line o a d e w (x ∷ (ys ++ zs)) p (more-words a b d (x ∷ []) (ys ++ zs) q (more-words b c d ys zs r s)) t
+line-2-2 o a b c d e w x ys zs p q r s t = line-1 o a d e w (x ∷ (ys ++ zs)) p (more-words a b d (x ∷ []) (ys ++ zs) q (more-words b c d ys zs r s)) t
 
 -- two words and three lists
 pub line-3-3 : (o a b c d e f g : List ℕ) (w x y : Word) (us vs ws : List Word) → a ≡ o ++ w → b ≡ a ++ spaced (x ∷ []) → c ≡ b ++ spaced (y ∷ [])
     → d ≡ c ++ spaced us → e ≡ d ++ spaced vs → f ≡ e ++ spaced ws → g ≡ f ++ 10 ∷ [] → g ≡ o ++ line_text (w ∷ x ∷ y ∷ (us ++ (vs ++ ws)))
 line-3-3 o a b c d e f g w x y us vs ws p q r s t u v =
-    whole-line o a f g w (x ∷ y ∷ (us ++ (vs ++ ws))) p
+    line-1 o a f g w (x ∷ y ∷ (us ++ (vs ++ ws))) p
     (more-words a b f (x ∷ []) (y ∷ (us ++ (vs ++ ws))) q
     (more-words b c f (y ∷ []) (us ++ (vs ++ ws)) r
     (more-words c d f us (vs ++ ws) s (more-words d e f vs ws t u)))) v
@@ -52,7 +48,7 @@ line-3-3 o a b c d e f g w x y us vs ws p q r s t u v =
 pub line-5 : (o a b c d e f g : List ℕ) (w v x y z u : Word) → a ≡ o ++ w → b ≡ a ++ spaced (v ∷ []) → c ≡ b ++ spaced (x ∷ []) → d ≡ c ++ spaced (y ∷ [])
     → e ≡ d ++ spaced (z ∷ []) → f ≡ e ++ spaced (u ∷ []) → g ≡ f ++ 10 ∷ [] → g ≡ o ++ line_text (w ∷ v ∷ x ∷ y ∷ z ∷ u ∷ [])
 line-5 o a b c d e f g w v x y z u p q r s t k l =
-    whole-line o a f g w (v ∷ x ∷ y ∷ z ∷ u ∷ []) p
+    line-1 o a f g w (v ∷ x ∷ y ∷ z ∷ u ∷ []) p
     (more-words a b f (v ∷ []) (x ∷ y ∷ z ∷ u ∷ []) q
     (more-words b c f (x ∷ []) (y ∷ z ∷ u ∷ []) r
     (more-words c d f (y ∷ []) (z ∷ u ∷ []) s (more-words d e f (z ∷ []) (u ∷ []) t k)))) l

@@ -1,6 +1,5 @@
 -- Lines that are written one after the other.
-use Rattle.task_writer.proofs.Vocabulary.{◌≡◌, ℕ, ◌+◌, ◌<◌, ◌≤◌, true, false, List, [], ◌∷◌, ◌++◌, map, length, take, drop, get_or, sym, ◌∙◌, ap, append_assoc, append-nil, refl, arith, codes, ◌==◌, flat_map, flat_map-append, take_more, take_all, map-append, slice_get_read, eqb-true, IsWellFormed, Variable, State, Kind, Program, What, variable_word, futures_words, line_words, spaced, line_text, header_words, text_of_lines, text_of}
-use Rattle.task_writer.specs.Lines.{name_at, kind_names, variable_names, root_names, names_in, code_lines, state_lines, var_lines, kind_lines, root_line, lines_of_program, HaveArguments}
+use Rattle.task_writer.proofs.Vocabulary.{◌≡◌, ℕ, ◌+◌, ◌<◌, ◌≤◌, true, false, List, [], ◌∷◌, ◌++◌, map, length, take, drop, get_or, sym, ◌∙◌, ap, append_assoc, append-nil, refl, arith, codes, ◌==◌, flat_map, flat_map-append, take_more, take_all, map-append, slice_get_read, eqb-true, IsWellFormed, Variable, State, Kind, Program, What, variable_word, futures_words, line_words, spaced, line_text, header_words, text_of_lines, text_of, name_at, kind_names, variable_names, root_names, names_in, code_lines, state_lines, var_lines, kind_lines, root_line, lines_of_program, HaveArguments}
 use Rattle.task_writer.proofs.Putting.{line-1}
 
 pub text-append : (xs ys : List What) → text_of_lines (xs ++ ys) ≡ text_of_lines xs ++ text_of_lines ys

@@ -1,8 +1,6 @@
 -- The line of a spawn, which is written in two parts.
-use Rattle.task_writer.proofs.Vocabulary.{◌≡◌, ℕ, Bool, Option, Result, Ok, Err, OnOk, List, [], ◌∷◌, ◌++◌, map, sym, ◌∙◌, ap, codes, Priority, Variable, State, Kind, Argument, Instr, Word, future_word, behind_words, retry_words, passed_word, priority_words, step_words, spaced, parted, line_text}
-use Rattle.std.proofs.Common.{option_map}
+use Rattle.task_writer.proofs.Vocabulary.{◌≡◌, ℕ, Bool, Option, Result, Ok, Err, OnOk, List, [], ◌∷◌, ◌++◌, map, sym, ◌∙◌, ap, codes, Priority, Variable, State, Kind, Argument, Instr, Word, future_word, behind_words, retry_words, passed_word, priority_words, step_words, spaced, parted, line_text, option_map, name_at, kind_names, variable_names, names_in, passed_of, step_of}
 use Rattle.task_syntax.specs.declared.instr.Instr.TheVariants.{Spawn}
-use Rattle.task_writer.specs.Lines.{name_at, kind_names, variable_names, names_in, passed_of, step_of}
 use Rattle.task_writer.proofs.Putting.{spawn-line}
 
 pub on-ok : {T E P Q : Type 0} (r : Result T E) → (P → Q) → OnOk r P → OnOk r Q

@@ -1,12 +1,6 @@
 -- The instructions of a state are read back.
-use Rattle.task_writer.proofs.Vocabulary.{◌≡◌, ℕ, zero, suc, ◌+◌, ◌-◌, ◌<◌, add-one, Bool, true, false, Option, Some, None, List, [], ◌∷◌, ◌++◌, map, length, slice_get, refl, sym, ◌∙◌, ap, subst, arith, length-map, IfSome, same_bytes, EachAt, Each, AllDiffer, IsNumberAt, IsFutureAt, IsFormedOperand, IsFormedArgument, IsFormedInstr, IsLabel, IsLabelAhead, labels_of, State, Kind, Program, Operand, Argument, Instr, Line, differ-tail, differ-head, What, Positions, place_of, number_place, future_place, operand_of, argument_of, instr_of, is_label, steps_to, code_from, line-at, same-name, same-bytes, numbered_code}
-use Rattle.std.proofs.Common.{option_map}
-use Rattle.task_syntax.specs.declared.program.Sort.TheVariants as sort
-use Rattle.task_syntax.specs.declared.instr.Operand.TheVariants as operand
-use Rattle.task_syntax.specs.declared.instr.Argument.TheVariants as argument
+use Rattle.task_writer.proofs.Vocabulary.{Sort, ◌≡◌, ℕ, zero, suc, ◌+◌, ◌-◌, ◌<◌, add-one, Bool, true, false, Option, Some, None, List, [], ◌∷◌, ◌++◌, map, length, slice_get, refl, sym, ◌∙◌, ap, subst, arith, length-map, IfSome, same_bytes, EachAt, Each, AllDiffer, IsNumberAt, IsFutureAt, IsFormedOperand, IsFormedArgument, IsFormedInstr, IsLabel, IsLabelAhead, labels_of, State, Kind, Program, Operand, Argument, Instr, Line, differ-tail, differ-head, What, Positions, place_of, number_place, future_place, operand_of, argument_of, instr_of, is_label, steps_to, code_from, line-at, same-name, same-bytes, numbered_code, option_map, Names, name_at, kind_names, variable_names, state_names, label_names, label_of, names_in, term_of, passed_of, step_of, code_lines, some-same}
 use Rattle.task_syntax.specs.declared.instr.Instr.TheVariants.{Set, Math, If, Goto, Label, Cell, Rows, Spawn, All, Copy, Drop, Get, Again, Done}
-use Rattle.task_lines.specs.declared.item.What.TheVariants as what
-use Rattle.task_writer.specs.Lines.{Names, name_at, kind_names, variable_names, state_names, label_names, label_of, names_in, term_of, passed_of, step_of, code_lines}
 use Rattle.task_writer.proofs.Itemized.{items_at}
 use Rattle.task_writer.proofs.Named.{name-found}
 use Rattle.task_writer.proofs.ReadPlaces.{position-place, variable-place, stands-at}
@@ -27,11 +21,11 @@ at_variable kind at = name_at (variable_names kind.variables) at
 
 pub number-back : (positions : Positions) (p : Program) (kind : Kind) → AreOf positions p kind → (at : ℕ) → IsNumberAt kind at
     → number_place positions.variables (at_variable kind at) ≡ at
-number-back positions p kind are at n = rw are.variables (variable-place kind.variables are.variables_differ sort.Number at (stands-at kind.variables sort.Number at n))
+number-back positions p kind are at n = rw are.variables (variable-place kind.variables are.variables_differ Sort.Number at (stands-at kind.variables Sort.Number at n))
 
 pub future-back : (positions : Positions) (p : Program) (kind : Kind) → AreOf positions p kind → (at : ℕ) → IsFutureAt kind at
     → future_place positions.variables (at_variable kind at) ≡ at
-future-back positions p kind are at n = rw are.variables (variable-place kind.variables are.variables_differ sort.Future at (stands-at kind.variables sort.Future at n))
+future-back positions p kind are at n = rw are.variables (variable-place kind.variables are.variables_differ Sort.Future at (stands-at kind.variables Sort.Future at n))
 
 kind-back : (positions : Positions) (p : Program) (kind : Kind) → AreOf positions p kind → (at : ℕ) → at < length p.kinds
     → place_of positions.kinds (name_at (kind_names p.kinds) at) ≡ at
@@ -43,13 +37,13 @@ state-back positions p kind are at l = rw are.states (position-place (state_name
 
 operand-back : (positions : Positions) (p : Program) (kind : Kind) → AreOf positions p kind → (a : Operand) → IsFormedOperand kind a
     → operand_of positions (term_of (variable_names kind.variables) a) ≡ a
-operand-back positions p kind are (operand.Literal n) formed = refl
-operand-back positions p kind are (operand.Variable at) formed = ap operand.Variable (number-back positions p kind are at formed)
+operand-back positions p kind are (Operand.Literal n) formed = refl
+operand-back positions p kind are (Operand.Variable at) formed = ap Operand.Variable (number-back positions p kind are at formed)
 
 argument-back : (positions : Positions) (p : Program) (kind : Kind) → AreOf positions p kind → (a : Argument) → IsFormedArgument kind a
     → argument_of positions (passed_of (variable_names kind.variables) a) ≡ a
-argument-back positions p kind are (argument.Number a) formed = ap argument.Number (operand-back positions p kind are a formed)
-argument-back positions p kind are (argument.Future at) formed = ap argument.Future (future-back positions p kind are at formed)
+argument-back positions p kind are (Argument.Number a) formed = ap Argument.Number (operand-back positions p kind are a formed)
+argument-back positions p kind are (Argument.Future at) formed = ap Argument.Future (future-back positions p kind are at formed)
 
 pub map-back : {A B : Type 0} (read : B → A) (write : A → B) (P : A → Type 0) → ((a : A) → P a → read (write a) ≡ a)
     → (more : List A) → Each more P → map read (map write more) ≡ more
@@ -110,9 +104,7 @@ instr-back positions p kind are state at label_place labels (Done value) formed 
 pub label-listed : (code : List Line) (j : ℕ) (line : Line) (name : List ℕ) → slice_get code j ≡ Some line → line.instr ≡ Label name
     → (i : ℕ) × (slice_get (labels_of code) i ≡ Some name)
 label-listed [] j line name e is = cc
-label-listed (l ∷ code) zero line name e is = let s : l.instr ≡ Label name = ap (λ (x : Line). x.instr) (some-same l line e) ∙ is in rw s (0, refl) where
-  some-same : (a b : Line) → Some a ≡ Some b → a ≡ b
-  some-same a b e = cc
+label-listed (l ∷ code) zero line name e is = let s : l.instr ≡ Label name = ap (λ (x : Line). x.instr) (some-same l line e) ∙ is in rw s (0, refl)
 label-listed (l ∷ code) (suc j) line name e is = let r = label-listed code j line name e is in by l.instr refl r.0 r.1 where
   by : (instr : Instr) → l.instr ≡ instr → (i : ℕ) → slice_get (labels_of code) i ≡ Some name → (i : ℕ) × (slice_get (labels_of (l ∷ code)) i ≡ Some name)
   by (Label other) f i g = rw f (suc i, g)
@@ -150,9 +142,7 @@ pub label-found : (kinds : List (List ℕ)) (kind : Kind) (state : State) (code 
 unfolding step_of
 label-found kinds kind state [] differ n rest j line name e is = cc
 label-found kinds kind state (l ∷ code) differ n rest zero line name e is =
-    let s : l.instr ≡ Label name = ap (λ (x : Line). x.instr) (some-same l line e) ∙ is in rw (s, same-bytes name) refl where
-      some-same : (a b : Line) → Some a ≡ Some b → a ≡ b
-      some-same a b e = cc
+    let s : l.instr ≡ Label name = ap (λ (x : Line). x.instr) (some-same l line e) ∙ is in rw (s, same-bytes name) refl
 label-found kinds kind state (l ∷ code) differ n rest (suc j) line name e is =
     let r = label-listed code j line name e is in
     let before = passes-on (names_in kinds kind state) l code differ r.0 name r.1 in
@@ -163,8 +153,8 @@ label-found kinds kind state (l ∷ code) differ n rest (suc j) line name e is =
 
 -- what stands behind the code is no instruction
 abbrev pub EndsCode : List What → Type 0
-EndsCode (what.State name holds settled ∷ rest) = Unit {0}
-EndsCode (what.End ∷ rest) = Unit {0}
+EndsCode (What.State name holds settled ∷ rest) = Unit {0}
+EndsCode (What.End ∷ rest) = Unit {0}
 EndsCode _ = ⊥
 
 -- these are the lines of the code from a place on
@@ -221,8 +211,8 @@ label-ahead p kind state at code differ from n rest target ahead =
 
 code-ends : (positions : Positions) (at n : ℕ) (rest : List What) → EndsCode rest → code_from positions at (items_at n rest) ≡ []
 unfolding code_from
-code-ends positions at n (what.State name holds settled ∷ rest) ends = refl
-code-ends positions at n (what.End ∷ rest) ends = refl
+code-ends positions at n (What.State name holds settled ∷ rest) ends = refl
+code-ends positions at n (What.End ∷ rest) ends = refl
 code-ends positions at n _ ends = absurd ends
 
 pub code-back : (positions : Positions) (p : Program) (kind : Kind) → AreOf positions p kind → (state : State)

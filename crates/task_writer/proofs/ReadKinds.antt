@@ -1,8 +1,5 @@
 -- The kinds of a program are read back.
-use Rattle.task_writer.proofs.Vocabulary.{◌≡◌, ℕ, zero, suc, ◌+◌, List, [], ◌∷◌, ◌++◌, take, drop, length, refl, ◌∙◌, ap, append_assoc, arith, take-append-drop, length-take-le, flat_map, Each, AllDiffer, IsFormedKind, Kind, Program, What, Positions, states_from, kind_of, kinds_from, numbered_kind, numbered_kinds}
-use Rattle.task_lines.specs.declared.item.What.TheVariants as what
-use Rattle.task_reader.specs.Names.{kind_names as names_of_kinds, state_names as names_of_states}
-use Rattle.task_writer.specs.Lines.{kind_names, state_names, state_lines, var_lines, kind_lines}
+use Rattle.task_writer.proofs.Vocabulary.{◌≡◌, ℕ, zero, suc, ◌+◌, List, [], ◌∷◌, ◌++◌, take, drop, length, refl, ◌∙◌, ap, append_assoc, arith, take-append-drop, length-take-le, flat_map, Each, AllDiffer, IsFormedKind, Kind, Program, What, Positions, states_from, kind_of, kinds_from, numbered_kind, numbered_kinds, names_of_kinds, names_of_states, kind_names, state_names, state_lines, var_lines, kind_lines}
 use Rattle.task_writer.proofs.Itemized.{items_at}
 use Rattle.task_writer.proofs.Skipped.{SkipsInside, inner_lines, skipped, skips-var, skips-inner}
 use Rattle.task_writer.proofs.ReadCode.{AreOf}
@@ -14,7 +11,7 @@ pub inner-behind : (kinds : List (List ℕ)) (kind : Kind) (rest : List What)
 inner-behind kinds kind rest =
     let var = var_lines (drop kind.arguments kind.variables) in
     let states = flat_map (state_lines kinds kind) kind.states in
-    append_assoc var (states ++ what.End ∷ []) rest ∙ ap (λ ws. var ++ ws) (append_assoc states (what.End ∷ []) rest)
+    append_assoc var (states ++ What.End ∷ []) rest ∙ ap (λ ws. var ++ ws) (append_assoc states (What.End ∷ []) rest)
 
 pub are-positions : (p : Program) (kind : Kind) → AllDiffer (kind_names p.kinds) → IsFormedKind p kind → (positions : Positions)
     → positions.kinds ≡ kind_names p.kinds → positions.variables ≡ kind.variables → positions.states ≡ state_names kind.states → AreOf positions p kind

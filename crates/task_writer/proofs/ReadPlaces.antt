@@ -1,15 +1,6 @@
 -- The place of a name is the position that it stands for.
-use Rattle.task_writer.proofs.Vocabulary.{◌≡◌, ℕ, zero, suc, ◌<◌, Bool, true, ◌||◌, Option, Some, None, unwrap_or, List, [], ◌∷◌, length, slice_get, refl, sym, ◌∙◌, ap, slice_get-get_or, list_any, same_bytes, AllDiffer, Sort, Future, Variable, both, or_right, is_among, same-bytes, same_sort, is_variable, has_variable, place_where, place_of, place-where, same-name, same-sort-is, name_at, variable_names}
-use Rattle.std.proofs.Common.{option_map}
-use Rattle.task_syntax.specs.declared.program.Sort.TheVariants.{Number}
+use Rattle.task_writer.proofs.Vocabulary.{◌≡◌, ℕ, ◌<◌, Bool, true, Option, Some, None, unwrap_or, List, [], length, slice_get, refl, sym, ◌∙◌, ap, slice_get-get_or, same_bytes, AllDiffer, Sort, Variable, both, is_among, same-bytes, same_sort, is_variable, has_variable, place_where, place_of, place-where, same-name, same-sort-is, name_at, variable_names, option_map, any-at, same-sort}
 use Rattle.task_writer.proofs.Named.{name-found}
-
--- ---- one that passes a test
-
-pub any-at : {A : Type 0} (test : A → Bool) (xs : List A) (at : ℕ) (x : A) → slice_get xs at ≡ Some x → test x ≡ true → list_any test xs ≡ true
-any-at test [] at x e t = cc
-any-at test (y ∷ ys) zero x e t = let s : y ≡ x = cc in ap (λ v. test v || list_any test ys) s ∙ ap (λ b. b || list_any test ys) t
-any-at test (y ∷ ys) (suc at) x e t = or_right (test y) (list_any test ys) (any-at test ys at x e t)
 
 -- where only what stands at one place passes the test, that is the place
 pub place-is : {A : Type 0} (test : A → Bool) (xs : List A) (at : ℕ) (x : A) → slice_get xs at ≡ Some x → test x ≡ true
@@ -49,12 +40,8 @@ stands-at variables sort at e = by (slice_get variables at) refl e where
   by (Some v) f e = record { variable = v; stands = f; sort_is = cc }
   by None f e = cc
 
-same-sort-self : (sort : Sort) → same_sort sort sort ≡ true
-same-sort-self Number = refl
-same-sort-self Future = refl
-
 is-itself : (sort : Sort) (v : Variable) → v.sort ≡ sort → is_variable sort v.name v ≡ true
-is-itself sort v e = rw (e, same-sort-self sort, same-bytes v.name) refl
+is-itself sort v e = rw (e, same-sort sort, same-bytes v.name) refl
 
 variables-same : (m n : List ℕ) (a b : Sort) → m ≡ n → a ≡ b → ◌≡◌ {A = Variable} (record { name = m; sort = a }) (record { name = n; sort = b })
 variables-same m n a b e f = rw (e, f) refl

@@ -1,7 +1,5 @@
 -- The lines of a well-formed program are read as that program, with the numbers of the lines.
-use Rattle.task_writer.proofs.Vocabulary.{◌≡◌, ◌+◌, [], map, length, refl, ◌∙◌, flat_map, IsWellFormed, Program, program_of, renumbered}
-use Rattle.task_reader.specs.Names.{kind_names as names_of_kinds}
-use Rattle.task_writer.specs.Lines.{kind_names, root_names, kind_lines, root_line, lines_of_program}
+use Rattle.task_writer.proofs.Vocabulary.{◌≡◌, ◌+◌, [], map, length, refl, ◌∙◌, flat_map, IsWellFormed, Program, program_of, renumbered, names_of_kinds, kind_names, root_names, kind_lines, root_line, lines_of_program}
 use Rattle.task_writer.proofs.Itemized.{items_at}
 use Rattle.task_writer.proofs.ReadCode.{from-start}
 use Rattle.task_writer.proofs.ReadKinds.{kinds-back, kinds-named}

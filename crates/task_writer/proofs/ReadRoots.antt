@@ -1,9 +1,5 @@
 -- The roots of a program are read back.
-use Rattle.task_writer.proofs.Vocabulary.{◌≡◌, ℕ, suc, ◌+◌, ◌<◌, List, [], ◌∷◌, ◌++◌, map, length, slice_get, Some, unwrap_or, refl, sym, ◌∙◌, ap, subst, append_assoc, arith, length-map, length-append, flat_map, EachAt, AllDiffer, IsFormedRoot, IsFormedRootArgument, RootArgument, Kind, Root, Program, get-front, differ-front, What, place_of, root_argument_of, root_of, roots_from, kinds_from, numbered_roots}
-use Rattle.std.proofs.Common.{option_map}
-use Rattle.task_syntax.specs.declared.program.RootArgument.TheVariants as root_argument
-use Rattle.task_reader.specs.Names.{kind_names as names_of_kinds}
-use Rattle.task_writer.specs.Lines.{name_at, kind_names, root_names, kind_lines, root_term_of, root_line}
+use Rattle.task_writer.proofs.Vocabulary.{◌≡◌, ℕ, suc, ◌+◌, ◌<◌, List, [], ◌∷◌, ◌++◌, map, length, slice_get, Some, unwrap_or, refl, sym, ◌∙◌, ap, subst, append_assoc, arith, length-map, length-append, flat_map, EachAt, AllDiffer, IsFormedRoot, IsFormedRootArgument, RootArgument, Kind, Root, Program, get-front, differ-front, What, place_of, root_argument_of, root_of, roots_from, kinds_from, numbered_roots, option_map, names_of_kinds, name_at, kind_names, root_names, kind_lines, root_term_of, root_line}
 use Rattle.task_writer.proofs.Itemized.{items_at}
 use Rattle.task_writer.proofs.Skipped.{SkipsInside, inner_lines, skipped, skips-inner}
 use Rattle.task_writer.proofs.ReadPlaces.{position-place, named-at, name-place}
@@ -19,8 +15,8 @@ earlier-back earlier later differ at l = name-place earlier (differ-front earlie
 
 argument-back : (earlier later : List (List ℕ)) → AllDiffer (earlier ++ later) → (a : RootArgument) → IsFormedRootArgument (length earlier) a
     → root_argument_of earlier (root_term_of (earlier ++ later) a) ≡ a
-argument-back earlier later differ (root_argument.Number n) formed = refl
-argument-back earlier later differ (root_argument.Root at) formed = ap root_argument.Root (earlier-back earlier later differ at formed)
+argument-back earlier later differ (RootArgument.Number n) formed = refl
+argument-back earlier later differ (RootArgument.Root at) formed = ap RootArgument.Root (earlier-back earlier later differ at formed)
 
 root-back : (p : Program) → AllDiffer (kind_names p.kinds) → (earlier later : List (List ℕ)) → AllDiffer (earlier ++ later) → (n : ℕ) (root : Root) → IsFormedRoot p (length earlier) root
     → root_of (kind_names p.kinds) earlier n root.name (name_at (kind_names p.kinds) root.kind) (map (root_term_of (earlier ++ later)) root.arguments) (option_map (name_at (earlier ++ later)) root.behind) root.priority

@@ -1,14 +1,12 @@
 -- The variables and the states of a kind are read back.
-use Rattle.task_writer.proofs.Vocabulary.{◌≡◌, ℕ, zero, suc, ◌+◌, List, [], ◌∷◌, ◌++◌, map, length, refl, append_assoc, append-nil, arith, flat_map, Each, IsFormedState, Variable, State, Kind, Program, What, Positions, state_names, states_from, variables_from, numbered_states}
-use Rattle.task_lines.specs.declared.item.What.TheVariants as what
-use Rattle.task_writer.specs.Lines.{kind_names, names_in, code_lines, state_lines, var_lines}
+use Rattle.task_writer.proofs.Vocabulary.{◌≡◌, ℕ, zero, suc, ◌+◌, List, [], ◌∷◌, ◌++◌, map, length, refl, append_assoc, append-nil, arith, flat_map, Each, IsFormedState, Variable, State, Kind, Program, What, Positions, names_of_states, states_from, variables_from, numbered_states, kind_names, names_in, code_lines, state_lines, var_lines}
 use Rattle.task_writer.proofs.Itemized.{items_at}
 use Rattle.task_writer.proofs.Skipped.{skipped, skips-code}
 use Rattle.task_writer.proofs.ReadCode.{AreOf, EndsCode, code-back, futures-back, from-start}
 
 -- the lines of states, behind which their kind ends
 abbrev pub states_lines : List (List ℕ) → Kind → List State → List What → List What
-states_lines kinds kind states rest = flat_map (state_lines kinds kind) states ++ what.End ∷ rest
+states_lines kinds kind states rest = flat_map (state_lines kinds kind) states ++ What.End ∷ rest
 
 pub states-end-code : (kinds : List (List ℕ)) (kind : Kind) (states : List State) (rest : List What) → EndsCode (states_lines kinds kind states rest)
 unfolding state_lines
@@ -25,7 +23,7 @@ states-back positions p kind are (s ∷ states) n rest formed =
     let code = code_lines (names_in kinds kind s) s.code in
     let later = states_lines kinds kind states rest in
     let e : n + 1 + length code ≡ n + suc (length code) = omega arith in
-    let parted = append_assoc code (flat_map (state_lines kinds kind) states) (what.End ∷ rest) in
+    let parted = append_assoc code (flat_map (state_lines kinds kind) states) (What.End ∷ rest) in
     rw (
       parted,
       futures-back positions p kind are s.holds here.holds,
@@ -37,21 +35,21 @@ states-back positions p kind are (s ∷ states) n rest formed =
     ) refl
 
 pub states-named : (kinds : List (List ℕ)) (kind : Kind) (states : List State) (n : ℕ) (rest : List What)
-    → state_names (items_at n (states_lines kinds kind states rest)) ≡ map (λ (s : State). s.name) states
+    → names_of_states (items_at n (states_lines kinds kind states rest)) ≡ map (λ (s : State). s.name) states
 unfolding state_lines
 states-named kinds kind [] n rest = refl
 states-named kinds kind (s ∷ states) n rest =
     let code = code_lines (names_in kinds kind s) s.code in
     let later = states_lines kinds kind states rest in
     rw (
-      append_assoc code (flat_map (state_lines kinds kind) states) (what.End ∷ rest),
-      skipped state_names code later (n + 1) (skips-code state_names (λ step n items. refl) kinds kind s s.code),
+      append_assoc code (flat_map (state_lines kinds kind) states) (What.End ∷ rest),
+      skipped names_of_states code later (n + 1) (skips-code names_of_states (λ step n items. refl) kinds kind s s.code),
       states-named kinds kind states (n + 1 + length code) rest,
     ) refl
 
 no-variables : (n : ℕ) (rest : List What) → EndsCode rest → variables_from (items_at n rest) ≡ []
-no-variables n (what.State name holds settled ∷ rest) ends = refl
-no-variables n (what.End ∷ rest) ends = refl
+no-variables n (What.State name holds settled ∷ rest) ends = refl
+no-variables n (What.End ∷ rest) ends = refl
 no-variables n _ ends = absurd ends
 
 pub variables-back : (variables : List Variable) (n : ℕ) (rest : List What) → EndsCode rest → variables_from (items_at n (var_lines variables ++ rest)) ≡ variables

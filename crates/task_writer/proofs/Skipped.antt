@@ -1,6 +1,5 @@
 -- Lines of which a reading takes no notice.
 use Rattle.task_writer.proofs.Vocabulary.{◌≡◌, ℕ, suc, ◌+◌, List, [], ◌∷◌, ◌++◌, map, drop, length, ◌∙◌, ap, arith, flat_map, Variable, State, Kind, Line, Step, What, Item, names_in, code_lines, state_lines, var_lines}
-use Rattle.task_lines.specs.declared.item.What.TheVariants as what
 use Rattle.task_writer.proofs.Itemized.{items_at}
 
 abbrev pub Skips : {Y : Type 0} → (List Item → Y) → What → Type 0
@@ -27,24 +26,24 @@ pub skips-map : {X Y : Type 0} (F : List Item → Y) (f : X → What) → ((x : 
 skips-map F f each [] = tt
 skips-map F f each (x ∷ xs) = (each x, skips-map F f each xs)
 
-pub skips-code : {Y : Type 0} (F : List Item → Y) → ((step : Step) → Skips F (what.Step step)) → (kinds : List (List ℕ)) (kind : Kind) (state : State) (code : List Line)
+pub skips-code : {Y : Type 0} (F : List Item → Y) → ((step : Step) → Skips F (What.Step step)) → (kinds : List (List ℕ)) (kind : Kind) (state : State) (code : List Line)
     → SkipsAll F (code_lines (names_in kinds kind state) code)
 skips-code F each kinds kind state code = skips-map F _ (λ l. each _) code
 
-pub skips-var : {Y : Type 0} (F : List Item → Y) → ((variables : List Variable) → Skips F (what.Var variables)) → (variables : List Variable) → SkipsAll F (var_lines variables)
+pub skips-var : {Y : Type 0} (F : List Item → Y) → ((variables : List Variable) → Skips F (What.Var variables)) → (variables : List Variable) → SkipsAll F (var_lines variables)
 skips-var F each [] = tt
 skips-var F each (v ∷ vs) = (each (v ∷ vs), tt)
 
 -- the lines of a kind behind its first
 abbrev pub inner_lines : List (List ℕ) → Kind → List What
-inner_lines kinds kind = var_lines (drop kind.arguments kind.variables) ++ (flat_map (state_lines kinds kind) kind.states ++ what.End ∷ [])
+inner_lines kinds kind = var_lines (drop kind.arguments kind.variables) ++ (flat_map (state_lines kinds kind) kind.states ++ What.End ∷ [])
 
 -- no notice of what stands inside a kind
 pub record SkipsInside {Y : Type 0} (F : List Item → Y) : Type 0 where
-  pub var : (variables : List Variable) → Skips F (what.Var variables)
-  pub state : (name : List ℕ) (holds settled : List (List ℕ)) → Skips F (what.State name holds settled)
-  pub step : (step : Step) → Skips F (what.Step step)
-  pub ends : Skips F what.End
+  pub var : (variables : List Variable) → Skips F (What.Var variables)
+  pub state : (name : List ℕ) (holds settled : List (List ℕ)) → Skips F (What.State name holds settled)
+  pub step : (step : Step) → Skips F (What.Step step)
+  pub ends : Skips F What.End
 
 skips-state : {Y : Type 0} (F : List Item → Y) → SkipsInside F → (kinds : List (List ℕ)) (kind : Kind) (state : State) → SkipsAll F (state_lines kinds kind state)
 unfolding state_lines
@@ -53,5 +52,5 @@ skips-state F skips kinds kind state = (skips.state _ _ _, skips-code F skips.st
 pub skips-inner : {Y : Type 0} (F : List Item → Y) → SkipsInside F → (kinds : List (List ℕ)) (kind : Kind) → SkipsAll F (inner_lines kinds kind)
 skips-inner F skips kinds kind =
     let states = flat_map (state_lines kinds kind) kind.states in
-    skips-append F (var_lines (drop kind.arguments kind.variables)) (states ++ what.End ∷ []) (skips-var F skips.var (drop kind.arguments kind.variables))
-    (skips-append F states (what.End ∷ []) (skips-flat F (state_lines kinds kind) (skips-state F skips kinds kind) kind.states) (skips.ends, tt))
+    skips-append F (var_lines (drop kind.arguments kind.variables)) (states ++ What.End ∷ []) (skips-var F skips.var (drop kind.arguments kind.variables))
+    (skips-append F states (What.End ∷ []) (skips-flat F (state_lines kinds kind) (skips-state F skips kinds kind) kind.states) (skips.ends, tt))

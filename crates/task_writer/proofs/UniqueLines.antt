@@ -1,15 +1,7 @@
 -- The lines of the program that items stand for are the lines of the items.
-use Rattle.task_writer.proofs.Vocabulary.{◌≡◌, ◌≢◌, ℕ, suc, ◌+◌, true, Option, unwrap_or, List, [], ◌∷◌, ◌++◌, map, length, take, drop, slice_get, Ok, refl, sym, ◌∙◌, ap, subst, arith, append_assoc, append-nil, flat_map, take-append_seam, drop-append_seam, same_bytes, Variable, State, Kind, Priority, Line, get-front, is_among, Step, RootTerm, What, Item, Place, Outside, Head, Code, Ended, Scope, first_scope, after, IsInState, MayBegin, MayFollow, Positions, UsesFuture, UsesRoot, root_term_use, behind_uses, futures_uses, root_uses, state_uses, step_uses, Known, is_given, known_at, uses_known, line_known, names_known, label_names, place_of, future_place, instr_of, steps_to, code_from, state_of, states_from, variables_from, kind_of, kinds_from, root_argument_of, root_of, roots_from, program_of, AllGiven, both-known, all-given, given-parts, futures-given, same-futures, known_for, known-is, place-where, same-name, Stand, item_at, names-of-kinds, names-of-roots, names-of-states, state-behind, no-step}
-use Rattle.std.proofs.Common.{option_map}
-use Rattle.task_lines.specs.declared.step.Step.TheVariants.{Label}
-use Rattle.task_lines.specs.declared.item.RootTerm.TheVariants as root_term
-use Rattle.task_lines.specs.declared.item.What.TheVariants as what
-use Rattle.task_reader.specs.Names as reader
-use Rattle.task_reader.specs.Fits as fits
-use Rattle.task_writer.specs.Lines.{Names, name_at, kind_names, variable_names, state_names, root_names, label_of, names_in, step_of, code_lines, state_lines, var_lines, kind_lines, root_term_of, root_line, lines_of_program}
-use Rattle.task_writer.specs.Lines as lines
+use Rattle.task_writer.proofs.Vocabulary.{◌≡◌, ◌≢◌, ℕ, suc, ◌+◌, true, Option, unwrap_or, List, [], ◌∷◌, ◌++◌, map, length, take, drop, slice_get, Ok, refl, sym, ◌∙◌, ap, subst, arith, append_assoc, append-nil, flat_map, take-append_seam, drop-append_seam, same_bytes, Variable, State, Kind, Priority, Line, get-front, is_among, Step, RootTerm, What, Item, Place, Outside, Head, Code, Ended, Scope, first_scope, after, IsInState, MayBegin, MayFollow, Positions, UsesFuture, UsesRoot, root_term_use, behind_uses, futures_uses, root_uses, state_uses, step_uses, Known, is_given, known_at, uses_known, line_known, names_known, names_of_kinds, names_of_states, names_of_labels, names_of_roots, place_of, future_place, instr_of, steps_to, code_from, state_of, states_from, variables_from, kind_of, kinds_from, root_argument_of, root_of, roots_from, program_of, AllGiven, both-known, all-given, given-parts, futures-given, same-futures, known_for, known-is, place-where, same-name, Stand, item_at, names-of-kinds, names-of-roots, names-of-states, state-behind, no-step, label-stands, option_map, Label, label_names, Names, name_at, variable_names, state_names, root_names, label_of, names_in, step_of, code_lines, state_lines, var_lines, kind_lines, root_term_of, root_line, lines_of_program}
 use Rattle.task_writer.proofs.Named.{name-found}
-use Rattle.task_writer.proofs.UniqueSteps.{place-same, HasNames, each-same, behind-same, futures-same, names_for, step-same, labels-stand}
+use Rattle.task_writer.proofs.UniqueSteps.{place-same, HasNames, each-same, behind-same, futures-same, names_for, step-same}
 
 abbrev pub whats : List Item → List What
 whats items = map (λ (i : Item). i.what) items
@@ -17,11 +9,11 @@ whats items = map (λ (i : Item). i.what) items
 -- ---- the order of lines
 
 abbrev pub IsRoot : What → Type 0
-IsRoot (what.Root name kind arguments behind priority) = Unit {0}
+IsRoot (What.Root name kind arguments behind priority) = Unit {0}
 IsRoot _ = ⊥
 
 abbrev pub IsNoVar : What → Type 0
-IsNoVar (what.Var variables) = ⊥
+IsNoVar (What.Var variables) = ⊥
 IsNoVar _ = Unit {0}
 
 abbrev pub First : (What → Type 0) → List Item → Type 0
@@ -30,8 +22,8 @@ First P (item ∷ items) = P item.what
 
 -- behind a root a root follows, and behind a `var` line none
 abbrev pub MayPrecede : What → List Item → Type 0
-MayPrecede (what.Root name kind arguments behind priority) items = First IsRoot items
-MayPrecede (what.Var variables) items = First IsNoVar items
+MayPrecede (What.Root name kind arguments behind priority) items = First IsRoot items
+MayPrecede (What.Var variables) items = First IsNoVar items
 MayPrecede _ items = Unit {0}
 
 abbrev pub IsOrdered : List Item → Type 0
@@ -40,7 +32,7 @@ IsOrdered (item ∷ items) = MayPrecede item.what items × IsOrdered items
 
 no-kinds-step : (kinds : List (List ℕ)) (line : ℕ) (w : What) (items : List Item) → IsRoot w → kinds_from kinds items ≡ [] → kinds_from kinds (item_at line w ∷ items) ≡ []
 unfolding kinds_from
-no-kinds-step kinds line (what.Root name kind arguments behind priority) items is e = e
+no-kinds-step kinds line (What.Root name kind arguments behind priority) items is e = e
 no-kinds-step kinds line _ items is e = absurd is
 
 -- no kind stands behind roots
@@ -49,14 +41,14 @@ unfolding kinds_from
 no-kinds kinds [] first ordered = refl
 no-kinds kinds (item ∷ items) first ordered = no-kinds-step kinds item.line item.what items first (no-kinds kinds items (further item.what first ordered.0) ordered.1) where
   further : (w : What) → IsRoot w → MayPrecede w items → First IsRoot items
-  further (what.Root name kind arguments behind priority) is may = may
+  further (What.Root name kind arguments behind priority) is may = may
   further _ is may = absurd is
 
 no-variables : (items : List Item) → First IsNoVar items → variables_from items ≡ []
 no-variables [] first = refl
 no-variables (item ∷ items) first = by item.what refl first where
   by : (w : What) → item.what ≡ w → IsNoVar w → variables_from (item ∷ items) ≡ []
-  by (what.Var variables) e is = absurd is
+  by (What.Var variables) e is = absurd is
   by _ e is = rw e refl
 
 -- ---- what the lines of the items are
@@ -70,28 +62,23 @@ record IsGiven (all : List Item) (roots : List (List ℕ)) (s : Scope) (items : 
   stand : Stand s items
   known : names_known all s items ≡ Ok tt
   ordered : IsOrdered items
-  roots_are : s.roots ++ fits.root_names items ≡ roots
+  roots_are : s.roots ++ names_of_roots items ≡ roots
 
 abbrev InStates : List (List ℕ) → List (List ℕ) → Positions → Kind → Scope → List Item → List What
-InStates kinds roots positions kind s items = flat_map (state_lines kinds kind) (states_from positions items) ++ (what.End ∷ later kinds roots s.roots items)
+InStates kinds roots positions kind s items = flat_map (state_lines kinds kind) (states_from positions items) ++ (What.End ∷ later kinds roots s.roots items)
 
 record Claims (all : List Item) (kinds roots : List (List ℕ)) (items : List Item) : Type 0 where
   outside : (s : Scope) → s.place ≡ Outside → IsGiven all roots s items → whats items ≡ later kinds roots s.roots items
-  begin : (s : Scope) (positions : Positions) (kind : Kind) → HasNames positions kinds kind → s.place ≡ Head → IsGiven all roots s items → First IsNoVar items
-      → s.variables ≡ positions.variables → s.states ++ reader.state_names items ≡ positions.states → whats items ≡ InStates kinds roots positions kind s items
   head : (s : Scope) (positions : Positions) (kind : Kind) → HasNames positions kinds kind → s.place ≡ Head → IsGiven all roots s items
-      → s.variables ++ variables_from items ≡ positions.variables → s.states ++ reader.state_names items ≡ positions.states
+      → s.variables ++ variables_from items ≡ positions.variables → s.states ++ names_of_states items ≡ positions.states
       → whats items ≡ var_lines (variables_from items) ++ InStates kinds roots positions kind s items
   code : (s : Scope) (positions : Positions) (kind : Kind) → HasNames positions kinds kind → (state : State) (at : ℕ) → IsInState s.place → IsGiven all roots s items
-      → s.variables ≡ positions.variables → s.states ++ reader.state_names items ≡ positions.states
+      → s.variables ≡ positions.variables → s.states ++ names_of_states items ≡ positions.states
       → ((j : ℕ) → slice_get state.code (at + j) ≡ slice_get (code_from positions at items) j)
       → whats items ≡ code_lines (names_in kinds kind state) (code_from positions at items) ++ InStates kinds roots positions kind s items
 
 no-state : (place : Place) → IsInState place → place ≡ Outside → ⊥
 no-state place is e = subst IsInState e is
-
-no-head : (place : Place) → IsInState place → place ≡ Head → ⊥
-no-head place is e = subst IsInState e is
 
 -- ---- instructions
 
@@ -100,53 +87,53 @@ names-same : (positions : Positions) (kinds : List (List ℕ)) (kind : Kind) (la
 names-same positions kinds kind labels has =
     let k = has.kinds_are in let v = has.variables_are in let s = has.states_are in rw (k, v, s) refl
 
-code-of-step : (all : List Item) (kinds roots : List (List ℕ)) → reader.kind_names all ≡ kinds → (line : ℕ) (step : Step) (items : List Item) → Claims all kinds roots items
-    → (s : Scope) (positions : Positions) (kind : Kind) → HasNames positions kinds kind → (state : State) (at : ℕ) → IsGiven all roots s (item_at line (what.Step step) ∷ items)
-    → s.variables ≡ positions.variables → s.states ++ reader.state_names items ≡ positions.states
-    → ((j : ℕ) → slice_get state.code (at + j) ≡ slice_get (code_from positions at (item_at line (what.Step step) ∷ items)) j)
-    → whats (item_at line (what.Step step) ∷ items) ≡ code_lines (names_in kinds kind state) (code_from positions at (item_at line (what.Step step) ∷ items)) ++ InStates kinds roots positions kind s (item_at line (what.Step step) ∷ items)
+code-of-step : (all : List Item) (kinds roots : List (List ℕ)) → names_of_kinds all ≡ kinds → (line : ℕ) (step : Step) (items : List Item) → Claims all kinds roots items
+    → (s : Scope) (positions : Positions) (kind : Kind) → HasNames positions kinds kind → (state : State) (at : ℕ) → IsGiven all roots s (item_at line (What.Step step) ∷ items)
+    → s.variables ≡ positions.variables → s.states ++ names_of_states items ≡ positions.states
+    → ((j : ℕ) → slice_get state.code (at + j) ≡ slice_get (code_from positions at (item_at line (What.Step step) ∷ items)) j)
+    → whats (item_at line (What.Step step) ∷ items) ≡ code_lines (names_in kinds kind state) (code_from positions at (item_at line (What.Step step) ∷ items)) ++ InStates kinds roots positions kind s (item_at line (What.Step step) ∷ items)
 unfolding code_from states_from kinds_from roots_from names_known
 code-of-step all kinds roots named line step items c s positions kind has state at given variables states code =
-    ap (λ ws. what.Step step ∷ ws) (c.code (after s (what.Step step)) positions kind has state (at + 1) (state-behind step) behind variables states ahead)
-    ∙ ap (λ z. what.Step z ∷ (code_lines (names_in kinds kind state) (code_from positions (at + 1) items) ++ InStates kinds roots positions kind s items)) (sym same) where
-      parts : (uses_known (known_at all s items) line 1 (step_uses step) ≡ Ok tt) × (names_known all (after s (what.Step step)) items ≡ Ok tt)
-      parts = both-known (uses_known (known_at all s items) line 1 (step_uses step)) (names_known all (after s (what.Step step)) items) given.known
+    ap (λ ws. What.Step step ∷ ws) (c.code (after s (What.Step step)) positions kind has state (at + 1) (state-behind step) behind variables states ahead)
+    ∙ ap (λ z. What.Step z ∷ (code_lines (names_in kinds kind state) (code_from positions (at + 1) items) ++ InStates kinds roots positions kind s items)) (sym same) where
+      parts : (uses_known (known_at all s items) line 1 (step_uses step) ≡ Ok tt) × (names_known all (after s (What.Step step)) items ≡ Ok tt)
+      parts = both-known (uses_known (known_at all s items) line 1 (step_uses step)) (names_known all (after s (What.Step step)) items) given.known
 
-      behind : IsGiven all roots (after s (what.Step step)) items
+      behind : IsGiven all roots (after s (What.Step step)) items
       behind = record { stand = given.stand.2; known = parts.1; ordered = given.ordered.1; roots_are = given.roots_are }
 
-      here : AllGiven (known_for positions (label_names items) s.roots) (step_uses step)
+      here : AllGiven (known_for positions (names_of_labels items) s.roots) (step_uses step)
       here = subst (λ k. AllGiven k (step_uses step)) (known-is positions all s items (named ∙ sym has.kinds_are) variables states) (all-given (known_at all s items) line 1 (step_uses step) parts.0)
 
       ahead : (j : ℕ) → slice_get state.code ((at + 1) + j) ≡ slice_get (code_from positions (at + 1) items) j
       ahead j = let e : (at + 1) + j ≡ at + suc j = omega arith in ap (λ n. slice_get state.code n) e ∙ code (suc j)
 
-      label : (name : List ℕ) → is_among (label_names items) name ≡ true → name_at (lines.label_names state.code) (at + 1 + steps_to name items) ≡ name
-      label name h = let r = labels-stand positions items (at + 1) name h in
-          name-found (λ (l : Line). label_of l.instr) state.code (at + 1 + steps_to name items) r.line (ahead (steps_to name items) ∙ r.stands) ∙ r.called
+      label : (name : List ℕ) → is_among (names_of_labels items) name ≡ true → name_at (label_names state.code) (at + 1 + steps_to name items) ≡ name
+      label name h = let r = label-stands positions items (at + 1) name h in
+          name-found (λ (l : Line). label_of l.instr) state.code (at + 1 + steps_to name items) r.0 (ahead (steps_to name items) ∙ r.1) ∙ ap label_of r.2
 
       same : step_of (names_in kinds kind state) (instr_of positions (λ name. at + 1 + steps_to name items) step) ≡ step
-      same = ap (λ (n : Names). step_of n (instr_of positions (λ name. at + 1 + steps_to name items) step)) (sym (names-same positions kinds kind (lines.label_names state.code) has))
-          ∙ step-same positions (label_names items) s.roots (lines.label_names state.code) (λ name. at + 1 + steps_to name items) label step here
+      same = ap (λ (n : Names). step_of n (instr_of positions (λ name. at + 1 + steps_to name items) step)) (sym (names-same positions kinds kind (label_names state.code) has))
+          ∙ step-same positions (names_of_labels items) s.roots (label_names state.code) (λ name. at + 1 + steps_to name items) label step here
 
 -- ---- states
 
-state-of-line : (all : List Item) (kinds roots : List (List ℕ)) → reader.kind_names all ≡ kinds → (line : ℕ) (name : List ℕ) (holds settled : List (List ℕ)) (items : List Item) → Claims all kinds roots items
-    → (s : Scope) (positions : Positions) (kind : Kind) → HasNames positions kinds kind → IsGiven all roots s (item_at line (what.State name holds settled) ∷ items)
-    → s.variables ≡ positions.variables → s.states ++ (name ∷ reader.state_names items) ≡ positions.states
-    → whats (item_at line (what.State name holds settled) ∷ items) ≡ InStates kinds roots positions kind s (item_at line (what.State name holds settled) ∷ items)
+state-of-line : (all : List Item) (kinds roots : List (List ℕ)) → names_of_kinds all ≡ kinds → (line : ℕ) (name : List ℕ) (holds settled : List (List ℕ)) (items : List Item) → Claims all kinds roots items
+    → (s : Scope) (positions : Positions) (kind : Kind) → HasNames positions kinds kind → IsGiven all roots s (item_at line (What.State name holds settled) ∷ items)
+    → s.variables ≡ positions.variables → s.states ++ (name ∷ names_of_states items) ≡ positions.states
+    → whats (item_at line (What.State name holds settled) ∷ items) ≡ InStates kinds roots positions kind s (item_at line (What.State name holds settled) ∷ items)
 unfolding states_from kinds_from roots_from names_known state_lines
 state-of-line all kinds roots named line name holds settled items c s positions kind has given variables states =
-    ap (λ ws. what.State name holds settled ∷ ws) (c.code behind positions kind has state 0 tt further variables (append_assoc s.states (name ∷ []) (reader.state_names items) ∙ states) code)
-    ∙ (ap (λ (hs : List (List ℕ)). what.State name hs settled ∷ body) (sym held_same)
-    ∙ (ap (λ (ss : List (List ℕ)). what.State name (map write (map (future_place positions.variables) holds)) ss ∷ body) (sym settled_same)
-    ∙ ap (λ ws. what.State name (map write (map (future_place positions.variables) holds)) (map write (map (future_place positions.variables) settled)) ∷ ws)
-    (sym (append_assoc (code_lines (names_in kinds kind state) (code_from positions 0 items)) (flat_map (state_lines kinds kind) (states_from positions items)) (what.End ∷ later kinds roots s.roots items))))) where
+    ap (λ ws. What.State name holds settled ∷ ws) (c.code behind positions kind has state 0 tt further variables (append_assoc s.states (name ∷ []) (names_of_states items) ∙ states) code)
+    ∙ (ap (λ (hs : List (List ℕ)). What.State name hs settled ∷ body) (sym held_same)
+    ∙ (ap (λ (ss : List (List ℕ)). What.State name (map write (map (future_place positions.variables) holds)) ss ∷ body) (sym settled_same)
+    ∙ ap (λ ws. What.State name (map write (map (future_place positions.variables) holds)) (map write (map (future_place positions.variables) settled)) ∷ ws)
+    (sym (append_assoc (code_lines (names_in kinds kind state) (code_from positions 0 items)) (flat_map (state_lines kinds kind) (states_from positions items)) (What.End ∷ later kinds roots s.roots items))))) where
       state : State
       state = state_of positions line name holds settled items
 
       behind : Scope
-      behind = after s (what.State name holds settled)
+      behind = after s (What.State name holds settled)
 
       body : List What
       body = code_lines (names_in kinds kind state) (code_from positions 0 items) ++ InStates kinds roots positions kind s items
@@ -154,8 +141,8 @@ state-of-line all kinds roots named line name holds settled items c s positions 
       write : ℕ → List ℕ
       write = name_at (variable_names kind.variables)
 
-      parts : (line_known (known_at all s items) line (what.State name holds settled) ≡ Ok tt) × (names_known all behind items ≡ Ok tt)
-      parts = both-known (line_known (known_at all s items) line (what.State name holds settled)) (names_known all behind items) given.known
+      parts : (line_known (known_at all s items) line (What.State name holds settled) ≡ Ok tt) × (names_known all behind items ≡ Ok tt)
+      parts = both-known (line_known (known_at all s items) line (What.State name holds settled)) (names_known all behind items) given.known
 
       lists : AllGiven (known_at all s items) (futures_uses holds) × AllGiven (known_at all s items) (futures_uses settled)
       lists = given-parts (known_at all s items) (futures_uses holds) (futures_uses settled) (all-given (known_at all s items) line 1 (state_uses holds settled) parts.0).1.1
@@ -177,65 +164,55 @@ state-of-line all kinds roots named line name holds settled items c s positions 
       settled_same : map write (map (future_place positions.variables) settled) ≡ settled
       settled_same = futures settled (futures-given (known_at all s items) settled lists.1)
 
-code-step : (all : List Item) (kinds roots : List (List ℕ)) → reader.kind_names all ≡ kinds → (line : ℕ) (w : What) (items : List Item) → Claims all kinds roots items
+code-step : (all : List Item) (kinds roots : List (List ℕ)) → names_of_kinds all ≡ kinds → (line : ℕ) (w : What) (items : List Item) → Claims all kinds roots items
     → (s : Scope) (positions : Positions) (kind : Kind) → HasNames positions kinds kind → (state : State) (at : ℕ) → IsInState s.place → IsGiven all roots s (item_at line w ∷ items)
-    → s.variables ≡ positions.variables → s.states ++ reader.state_names (item_at line w ∷ items) ≡ positions.states
+    → s.variables ≡ positions.variables → s.states ++ names_of_states (item_at line w ∷ items) ≡ positions.states
     → ((j : ℕ) → slice_get state.code (at + j) ≡ slice_get (code_from positions at (item_at line w ∷ items)) j)
     → whats (item_at line w ∷ items) ≡ code_lines (names_in kinds kind state) (code_from positions at (item_at line w ∷ items)) ++ InStates kinds roots positions kind s (item_at line w ∷ items)
 unfolding code_from states_from kinds_from roots_from names_known uses_known
-code-step all kinds roots named line (what.Kind name arguments) items c s positions kind has state at is given variables states code = absurd (no-state s.place is given.stand.1.0)
-code-step all kinds roots named line (what.Var more) items c s positions kind has state at is given variables states code = absurd (no-head s.place is given.stand.1.0)
-code-step all kinds roots named line (what.State name holds settled) items c s positions kind has state at is given variables states code =
+code-step all kinds roots named line (What.State name holds settled) items c s positions kind has state at is given variables states code =
     state-of-line all kinds roots named line name holds settled items c s positions kind has given variables states
-code-step all kinds roots named line (what.Step step) items c s positions kind has state at is given variables states code =
+code-step all kinds roots named line (What.Step step) items c s positions kind has state at is given variables states code =
     code-of-step all kinds roots named line step items c s positions kind has state at given variables states code
-code-step all kinds roots named line what.End items c s positions kind has state at is given variables states code =
-    ap (λ ws. what.End ∷ ws) (c.outside (after s what.End) refl (record { stand = given.stand.2; known = given.known; ordered = given.ordered.1; roots_are = given.roots_are }))
-code-step all kinds roots named line (what.Root name callee arguments behind priority) items c s positions kind has state at is given variables states code = absurd (no-state s.place is given.stand.1.0)
-
-begin-step : (all : List Item) (kinds roots : List (List ℕ)) → reader.kind_names all ≡ kinds → (line : ℕ) (w : What) (items : List Item) → Claims all kinds roots items
-    → (s : Scope) (positions : Positions) (kind : Kind) → HasNames positions kinds kind → s.place ≡ Head → IsGiven all roots s (item_at line w ∷ items) → IsNoVar w
-    → s.variables ≡ positions.variables → s.states ++ reader.state_names (item_at line w ∷ items) ≡ positions.states
-    → whats (item_at line w ∷ items) ≡ InStates kinds roots positions kind s (item_at line w ∷ items)
-begin-step all kinds roots named line (what.Kind name arguments) items c s positions kind has is given first variables states = let f : Outside ≡ Head = sym given.stand.1.0 ∙ is in cc
-begin-step all kinds roots named line (what.Var more) items c s positions kind has is given first variables states = absurd first
-begin-step all kinds roots named line (what.State name holds settled) items c s positions kind has is given first variables states =
-    state-of-line all kinds roots named line name holds settled items c s positions kind has given variables states
-begin-step all kinds roots named line (what.Step step) items c s positions kind has is given first variables states = absurd (no-step s.place step is given.stand.1.0)
-begin-step all kinds roots named line what.End items c s positions kind has is given first variables states = let f : Ended ≡ Head = sym given.stand.1 ∙ is in cc
-begin-step all kinds roots named line (what.Root name callee arguments behind priority) items c s positions kind has is given first variables states = let f : Outside ≡ Head = sym given.stand.1.0 ∙ is in cc
+code-step all kinds roots named line What.End items c s positions kind has state at is given variables states code =
+    ap (λ ws. What.End ∷ ws) (c.outside (after s What.End) refl (record { stand = given.stand.2; known = given.known; ordered = given.ordered.1; roots_are = given.roots_are }))
+code-step all kinds roots named line _ items c s positions kind has state at is given variables states code = absurd (subst IsInState given.stand.1.0 is)
 
 -- ---- kinds
 
-one-var-line : (variables more : List Variable) → variables ≢ [] → more ≡ [] → var_lines (variables ++ more) ≡ what.Var variables ∷ []
+one-var-line : (variables more : List Variable) → variables ≢ [] → more ≡ [] → var_lines (variables ++ more) ≡ What.Var variables ∷ []
 one-var-line [] more n e = absurd (n refl)
-one-var-line (v ∷ vs) more n e = ap (λ (z : List Variable). what.Var (v ∷ z) ∷ []) (ap (λ z. vs ++ z) e ∙ append-nil vs)
+one-var-line (v ∷ vs) more n e = ap (λ (z : List Variable). What.Var (v ∷ z) ∷ []) (ap (λ z. vs ++ z) e ∙ append-nil vs)
 
-head-step : (all : List Item) (kinds roots : List (List ℕ)) → reader.kind_names all ≡ kinds → (line : ℕ) (w : What) (items : List Item) → Claims all kinds roots items
+head-step : (all : List Item) (kinds roots : List (List ℕ)) → names_of_kinds all ≡ kinds → (line : ℕ) (w : What) (items : List Item) → Claims all kinds roots items
     → (s : Scope) (positions : Positions) (kind : Kind) → HasNames positions kinds kind → s.place ≡ Head → IsGiven all roots s (item_at line w ∷ items)
-    → s.variables ++ variables_from (item_at line w ∷ items) ≡ positions.variables → s.states ++ reader.state_names (item_at line w ∷ items) ≡ positions.states
+    → s.variables ++ variables_from (item_at line w ∷ items) ≡ positions.variables → s.states ++ names_of_states (item_at line w ∷ items) ≡ positions.states
     → whats (item_at line w ∷ items) ≡ var_lines (variables_from (item_at line w ∷ items)) ++ InStates kinds roots positions kind s (item_at line w ∷ items)
 unfolding states_from kinds_from roots_from names_known uses_known
-head-step all kinds roots named line (what.Var more) items c s positions kind has is given variables states =
+head-step all kinds roots named line (What.Var more) items c s positions kind has is given variables states =
     let none = no-variables items given.ordered.0 in
-    let whole : s.variables ++ more ≡ positions.variables = ap (λ z. s.variables ++ z) (sym (append-nil more) ∙ ap (λ z. more ++ z) (sym none)) ∙ variables in
-    ap (λ ws. what.Var more ∷ ws)
-    (c.begin (after s (what.Var more)) positions kind has is (record { stand = given.stand.2; known = given.known; ordered = given.ordered.1; roots_are = given.roots_are }) given.ordered.0 whole states)
+    ap (λ ws. What.Var more ∷ ws)
+    (c.head (after s (What.Var more)) positions kind has is (record { stand = given.stand.2; known = given.known; ordered = given.ordered.1; roots_are = given.roots_are })
+    (append_assoc s.variables more (variables_from items) ∙ variables) states
+    ∙ ap (λ (vs : List Variable). var_lines vs ++ InStates kinds roots positions kind s items) none)
     ∙ ap (λ vs. vs ++ InStates kinds roots positions kind s items) (sym (one-var-line more (variables_from items) given.stand.0.1.0.0.1 none))
-head-step all kinds roots named line w items c s positions kind has is given variables states =
-    begin-step all kinds roots named line w items c s positions kind has is given tt (sym (append-nil s.variables) ∙ variables) states
+head-step all kinds roots named line (What.State name holds settled) items c s positions kind has is given variables states =
+    state-of-line all kinds roots named line name holds settled items c s positions kind has given (sym (append-nil s.variables) ∙ variables) states
+head-step all kinds roots named line (What.Step step) items c s positions kind has is given variables states = absurd (no-step s.place step is given.stand.1.0)
+head-step all kinds roots named line What.End items c s positions kind has is given variables states = let f : Ended ≡ Head = sym given.stand.1 ∙ is in cc
+head-step all kinds roots named line _ items c s positions kind has is given variables states = let f : Outside ≡ Head = sym given.stand.1.0 ∙ is in cc
 
 kind-of-line : (all : List Item) (kinds roots : List (List ℕ)) (line : ℕ) (name : List ℕ) (arguments : List Variable) (items : List Item) → Claims all kinds roots items
-    → (s : Scope) → IsGiven all roots s (item_at line (what.Kind name arguments) ∷ items)
-    → whats (item_at line (what.Kind name arguments) ∷ items) ≡ later kinds roots s.roots (item_at line (what.Kind name arguments) ∷ items)
+    → (s : Scope) → IsGiven all roots s (item_at line (What.Kind name arguments) ∷ items)
+    → whats (item_at line (What.Kind name arguments) ∷ items) ≡ later kinds roots s.roots (item_at line (What.Kind name arguments) ∷ items)
 unfolding kinds_from roots_from kind_of kind_lines names_known uses_known
 kind-of-line all kinds roots line name arguments items c s given =
-    ap (λ ws. what.Kind name arguments ∷ ws) (c.head (after s (what.Kind name arguments)) positions kind has refl (record { stand = given.stand.2; known = given.known; ordered = given.ordered.1; roots_are = given.roots_are }) refl refl)
-    ∙ (ap (λ (vs : List Variable). what.Kind name vs ∷ (var_lines (variables_from items) ++ (states ++ (what.End ∷ (more ++ last))))) (sym (take-append_seam arguments (variables_from items)))
-    ∙ (ap (λ (vs : List Variable). head ∷ (var_lines vs ++ (states ++ (what.End ∷ (more ++ last))))) (sym (drop-append_seam arguments (variables_from items)))
-    ∙ ap (λ ws. head ∷ ws) (sym (append_assoc (locals ++ (states ++ what.End ∷ [])) more last ∙ (append_assoc locals (states ++ what.End ∷ []) (more ++ last) ∙ ap (λ ws. locals ++ ws) (append_assoc states (what.End ∷ []) (more ++ last))))))) where
+    ap (λ ws. What.Kind name arguments ∷ ws) (c.head (after s (What.Kind name arguments)) positions kind has refl (record { stand = given.stand.2; known = given.known; ordered = given.ordered.1; roots_are = given.roots_are }) refl refl)
+    ∙ (ap (λ (vs : List Variable). What.Kind name vs ∷ (var_lines (variables_from items) ++ (states ++ (What.End ∷ (more ++ last))))) (sym (take-append_seam arguments (variables_from items)))
+    ∙ (ap (λ (vs : List Variable). head ∷ (var_lines vs ++ (states ++ (What.End ∷ (more ++ last))))) (sym (drop-append_seam arguments (variables_from items)))
+    ∙ ap (λ ws. head ∷ ws) (sym (append_assoc (locals ++ (states ++ What.End ∷ [])) more last ∙ (append_assoc locals (states ++ What.End ∷ []) (more ++ last) ∙ ap (λ ws. locals ++ ws) (append_assoc states (What.End ∷ []) (more ++ last))))))) where
       positions : Positions
-      positions = record { kinds = kinds; variables = arguments ++ variables_from items; states = reader.state_names items }
+      positions = record { kinds = kinds; variables = arguments ++ variables_from items; states = names_of_states items }
 
       kind : Kind
       kind = kind_of kinds line name arguments items
@@ -250,7 +227,7 @@ kind-of-line all kinds roots line name arguments items c s given =
       locals = var_lines (drop (length arguments) (arguments ++ variables_from items))
 
       head : What
-      head = what.Kind name (take (length arguments) (arguments ++ variables_from items))
+      head = What.Kind name (take (length arguments) (arguments ++ variables_from items))
 
       more : List What
       more = flat_map (kind_lines kinds) (kinds_from kinds items)
@@ -265,9 +242,9 @@ earlier-same earlier more all name e h =
     let r = place-where (same_bytes name) earlier h in
     ap (λ o. unwrap_or o []) (ap (λ ns. slice_get ns (place_of earlier name)) (sym e) ∙ get-front earlier more (place_of earlier name) r.0 r.1) ∙ sym (same-name name r.0 r.2)
 
-root-same : (all : List Item) (kinds roots : List (List ℕ)) → reader.kind_names all ≡ kinds → (line : ℕ) (name callee : List ℕ) (arguments : List RootTerm) (behind : Option (List ℕ)) (priority : Priority) (items : List Item)
-    → (s : Scope) (more : List (List ℕ)) → s.roots ++ more ≡ roots → line_known (known_at all s items) line (what.Root name callee arguments behind priority) ≡ Ok tt
-    → root_line kinds roots (root_of kinds s.roots line name callee arguments behind priority) ≡ what.Root name callee arguments behind priority
+root-same : (all : List Item) (kinds roots : List (List ℕ)) → names_of_kinds all ≡ kinds → (line : ℕ) (name callee : List ℕ) (arguments : List RootTerm) (behind : Option (List ℕ)) (priority : Priority) (items : List Item)
+    → (s : Scope) (more : List (List ℕ)) → s.roots ++ more ≡ roots → line_known (known_at all s items) line (What.Root name callee arguments behind priority) ≡ Ok tt
+    → root_line kinds roots (root_of kinds s.roots line name callee arguments behind priority) ≡ What.Root name callee arguments behind priority
 unfolding root_line root_of
 root-same all kinds roots named line name callee arguments behind priority items s more e known_ =
     rw (place-same kinds callee callee_known, arguments_same, behind_same) refl where
@@ -287,8 +264,8 @@ root-same all kinds roots named line name callee arguments behind priority items
       one name h = earlier-same s.roots more roots name e h
 
       term : (t : RootTerm) → is_given k (root_term_use t) ≡ true → root_term_of roots (root_argument_of s.roots t) ≡ t
-      term (root_term.Number n) h = refl
-      term (root_term.Root name) h = ap (λ n. root_term.Root n) (one name h)
+      term (RootTerm.Number n) h = refl
+      term (RootTerm.Root name) h = ap (λ n. RootTerm.Root n) (one name h)
 
       arguments_same : map (root_term_of roots) (map (root_argument_of s.roots) arguments) ≡ arguments
       arguments_same = each-same k root_term_use (root_argument_of s.roots) (root_term_of roots) term arguments parts.0
@@ -296,42 +273,41 @@ root-same all kinds roots named line name callee arguments behind priority items
       behind_same : option_map (name_at roots) (option_map (place_of s.roots) behind) ≡ behind
       behind_same = behind-same k UsesRoot (place_of s.roots) (name_at roots) one behind parts.1
 
-root-of-line : (all : List Item) (kinds roots : List (List ℕ)) → reader.kind_names all ≡ kinds → (line : ℕ) (name callee : List ℕ) (arguments : List RootTerm) (behind : Option (List ℕ)) (priority : Priority) (items : List Item)
-    → Claims all kinds roots items → (s : Scope) → s.place ≡ Outside → IsGiven all roots s (item_at line (what.Root name callee arguments behind priority) ∷ items)
-    → whats (item_at line (what.Root name callee arguments behind priority) ∷ items) ≡ later kinds roots s.roots (item_at line (what.Root name callee arguments behind priority) ∷ items)
+root-of-line : (all : List Item) (kinds roots : List (List ℕ)) → names_of_kinds all ≡ kinds → (line : ℕ) (name callee : List ℕ) (arguments : List RootTerm) (behind : Option (List ℕ)) (priority : Priority) (items : List Item)
+    → Claims all kinds roots items → (s : Scope) → s.place ≡ Outside → IsGiven all roots s (item_at line (What.Root name callee arguments behind priority) ∷ items)
+    → whats (item_at line (What.Root name callee arguments behind priority) ∷ items) ≡ later kinds roots s.roots (item_at line (What.Root name callee arguments behind priority) ∷ items)
 unfolding kinds_from roots_from names_known
 root-of-line all kinds roots named line name callee arguments behind priority items c s is given =
-    let w = what.Root name callee arguments behind priority in
+    let w = What.Root name callee arguments behind priority in
     let parts = both-known (line_known (known_at all s items) line w) (names_known all (after s w) items) given.known in
     let none = no-kinds kinds items given.ordered.0 given.ordered.1 in
     let last = map (root_line kinds roots) (roots_from kinds (s.roots ++ name ∷ []) items) in
-    let further : IsGiven all roots (after s w) items = record { stand = given.stand.2; known = parts.1; ordered = given.ordered.1; roots_are = append_assoc s.roots (name ∷ []) (fits.root_names items) ∙ given.roots_are } in
+    let further : IsGiven all roots (after s w) items = record { stand = given.stand.2; known = parts.1; ordered = given.ordered.1; roots_are = append_assoc s.roots (name ∷ []) (names_of_roots items) ∙ given.roots_are } in
     ap (λ ws. w ∷ ws) (c.outside (after s w) is further ∙ ap (λ (ks : List Kind). flat_map (kind_lines kinds) ks ++ last) none)
-    ∙ (ap (λ z. z ∷ last) (sym (root-same all kinds roots named line name callee arguments behind priority items s (name ∷ fits.root_names items) given.roots_are parts.0))
+    ∙ (ap (λ z. z ∷ last) (sym (root-same all kinds roots named line name callee arguments behind priority items s (name ∷ names_of_roots items) given.roots_are parts.0))
     ∙ ap (λ (ks : List Kind). flat_map (kind_lines kinds) ks ++ (root_line kinds roots (root_of kinds s.roots line name callee arguments behind priority) ∷ last)) (sym none))
 
-outside-step : (all : List Item) (kinds roots : List (List ℕ)) → reader.kind_names all ≡ kinds → (line : ℕ) (w : What) (items : List Item) → Claims all kinds roots items
+outside-step : (all : List Item) (kinds roots : List (List ℕ)) → names_of_kinds all ≡ kinds → (line : ℕ) (w : What) (items : List Item) → Claims all kinds roots items
     → (s : Scope) → s.place ≡ Outside → IsGiven all roots s (item_at line w ∷ items) → whats (item_at line w ∷ items) ≡ later kinds roots s.roots (item_at line w ∷ items)
-outside-step all kinds roots named line (what.Kind name arguments) items c s is given = kind-of-line all kinds roots line name arguments items c s given
-outside-step all kinds roots named line (what.Var more) items c s is given = let f : Head ≡ Outside = sym given.stand.1.0 ∙ is in cc
-outside-step all kinds roots named line (what.State name holds settled) items c s is given = absurd (no-begin s.place given.stand.1.0 is) where
+outside-step all kinds roots named line (What.Kind name arguments) items c s is given = kind-of-line all kinds roots line name arguments items c s given
+outside-step all kinds roots named line (What.Var more) items c s is given = let f : Head ≡ Outside = sym given.stand.1.0 ∙ is in cc
+outside-step all kinds roots named line (What.State name holds settled) items c s is given = absurd (no-begin s.place given.stand.1.0 is) where
   no-begin : (place : Place) → MayBegin place → place ≡ Outside → ⊥
   no-begin place h e = subst MayBegin e h
-outside-step all kinds roots named line (what.Step step) items c s is given = absurd (no-follow s.place step is given.stand.1.0) where
+outside-step all kinds roots named line (What.Step step) items c s is given = absurd (no-follow s.place step is given.stand.1.0) where
   no-follow : (place : Place) (step : Step) → place ≡ Outside → MayFollow place step → ⊥
   no-follow place (Label name) e may = subst IsInState e may
   no-follow place step e may = let f : Code ≡ Outside = sym may ∙ e in cc
-outside-step all kinds roots named line what.End items c s is given = let f : Ended ≡ Outside = sym given.stand.1 ∙ is in cc
-outside-step all kinds roots named line (what.Root name callee arguments behind priority) items c s is given =
+outside-step all kinds roots named line What.End items c s is given = let f : Ended ≡ Outside = sym given.stand.1 ∙ is in cc
+outside-step all kinds roots named line (What.Root name callee arguments behind priority) items c s is given =
     root-of-line all kinds roots named line name callee arguments behind priority items c s is given
 
 -- ---- all items
 
-claims : (all : List Item) (kinds roots : List (List ℕ)) → reader.kind_names all ≡ kinds → (items : List Item) → Claims all kinds roots items
+claims : (all : List Item) (kinds roots : List (List ℕ)) → names_of_kinds all ≡ kinds → (items : List Item) → Claims all kinds roots items
 unfolding kinds_from roots_from
 claims all kinds roots named [] = record {
   outside = λ s is given. refl;
-  begin = λ s positions kind has is given first variables states. let f : Outside ≡ Head = sym given.stand ∙ is in cc;
   head = λ s positions kind has is given variables states. let f : Outside ≡ Head = sym given.stand ∙ is in cc;
   code = λ s positions kind has state at is given variables states code. absurd (no-state s.place is given.stand);
 }
@@ -339,7 +315,6 @@ claims all kinds roots named (item ∷ items) =
     let c = claims all kinds roots named items in
     record {
       outside = outside-step all kinds roots named item.line item.what items c;
-      begin = begin-step all kinds roots named item.line item.what items c;
       head = head-step all kinds roots named item.line item.what items c;
       code = code-step all kinds roots named item.line item.what items c;
     }
@@ -347,8 +322,8 @@ claims all kinds roots named (item ∷ items) =
 pub items-lines : (items : List Item) → Stand first_scope items → names_known items first_scope items ≡ Ok tt → IsOrdered items → lines_of_program (program_of items) ≡ whats items
 unfolding lines_of_program program_of
 items-lines items stand known_ ordered =
-    let K = reader.kind_names items in
-    let R = fits.root_names items in
+    let K = names_of_kinds items in
+    let R = names_of_roots items in
     let kinds = kinds_from K items in
     let roots = roots_from K [] items in
     ap (λ ns. flat_map (kind_lines ns) kinds ++ map (root_line ns (root_names roots)) roots) (names-of-kinds K items)

@@ -1,12 +1,5 @@
 -- An instruction that is read is written with the names that it was read with.
-use Rattle.task_writer.proofs.Vocabulary.{◌≡◌, ℕ, ◌+◌, add-one, Bool, true, false, ◌||◌, cond, Option, Some, None, unwrap_or, List, [], ◌∷◌, map, slice_get, refl, sym, ◌∙◌, ap, same_bytes, Sort, Variable, Kind, Line, is_among, Term, Passed, Step, What, Item, has_variable, is_variable, Positions, Use, UsesFuture, term_use, passed_use, behind_uses, step_uses, Known, is_given, label_names, place_of, place_where, number_place, future_place, operand_of, argument_of, instr_of, steps_to, code_from, AllGiven, given-parts, known_for, place-where, same-name, variable-place}
-use Rattle.std.proofs.Common.{option_map}
-use Rattle.task_syntax.specs.declared.program.Sort.TheVariants as sort
-use Rattle.task_lines.specs.declared.step.Term.TheVariants as term
-use Rattle.task_lines.specs.declared.step.Passed.TheVariants as passed
-use Rattle.task_lines.specs.declared.step.Step.TheVariants.{Set, Math, If, Goto, Label, Cell, Rows, Spawn, All, Copy, Drop, Get, Again, Done}
-use Rattle.task_lines.specs.declared.item.What.TheVariants as what
-use Rattle.task_writer.specs.Lines.{Names, name_at, variable_names, state_names, label_of, term_of, passed_of, step_of}
+use Rattle.task_writer.proofs.Vocabulary.{◌≡◌, ℕ, true, Option, Some, None, unwrap_or, List, [], ◌∷◌, map, refl, sym, ◌∙◌, ap, same_bytes, Sort, Variable, Kind, is_among, Term, Passed, Step, has_variable, is_variable, Positions, Use, UsesFuture, term_use, passed_use, behind_uses, step_uses, Known, is_given, place_of, place_where, number_place, future_place, operand_of, argument_of, instr_of, AllGiven, given-parts, known_for, place-where, same-name, variable-place, option_map, Set, Math, If, Goto, Label, Cell, Rows, Spawn, All, Copy, Drop, Get, Again, Done, Names, name_at, variable_names, state_names, term_of, passed_of, step_of}
 use Rattle.task_writer.proofs.Named.{name-found}
 
 -- ---- places
@@ -29,23 +22,23 @@ pub record HasNames (positions : Positions) (kinds : List (List ℕ)) (kind : Ki
   pub variables_are : positions.variables ≡ kind.variables
   pub states_are : positions.states ≡ state_names kind.states
 
-number-same : (positions : Positions) (name : List ℕ) → has_variable positions.variables sort.Number name ≡ true
+number-same : (positions : Positions) (name : List ℕ) → has_variable positions.variables Sort.Number name ≡ true
     → name_at (variable_names positions.variables) (number_place positions.variables name) ≡ name
-number-same positions name e = variable-same sort.Number name positions.variables e
+number-same positions name e = variable-same Sort.Number name positions.variables e
 
-future-same : (positions : Positions) (name : List ℕ) → has_variable positions.variables sort.Future name ≡ true
+future-same : (positions : Positions) (name : List ℕ) → has_variable positions.variables Sort.Future name ≡ true
     → name_at (variable_names positions.variables) (future_place positions.variables name) ≡ name
-future-same positions name e = variable-same sort.Future name positions.variables e
+future-same positions name e = variable-same Sort.Future name positions.variables e
 
 term-same : (positions : Positions) (labels roots : List (List ℕ)) (t : Term) → is_given (known_for positions labels roots) (term_use t) ≡ true
     → term_of (variable_names positions.variables) (operand_of positions t) ≡ t
-term-same positions labels roots (term.Literal n) e = refl
-term-same positions labels roots (term.Variable name) e = ap (λ n. term.Variable n) (number-same positions name e)
+term-same positions labels roots (Term.Literal n) e = refl
+term-same positions labels roots (Term.Variable name) e = ap (λ n. Term.Variable n) (number-same positions name e)
 
 passed-same : (positions : Positions) (labels roots : List (List ℕ)) (a : Passed) → is_given (known_for positions labels roots) (passed_use a) ≡ true
     → passed_of (variable_names positions.variables) (argument_of positions a) ≡ a
-passed-same positions labels roots (passed.Number t) e = ap (λ x. passed.Number x) (term-same positions labels roots t e)
-passed-same positions labels roots (passed.Future name) e = ap (λ n. passed.Future n) (future-same positions name e)
+passed-same positions labels roots (Passed.Number t) e = ap (λ x. Passed.Number x) (term-same positions labels roots t e)
+passed-same positions labels roots (Passed.Future name) e = ap (λ n. Passed.Future n) (future-same positions name e)
 
 -- each member of a list that is given is written as it was read
 pub each-same : {A B : Type 0} (k : Known) (use_of : A → Use) (read : A → B) (write : B → A) → ((a : A) → is_given k (use_of a) ≡ true → write (read a) ≡ a)
@@ -107,31 +100,3 @@ step-same positions labels roots places label_place at (Again target behind prio
       behind-same k UsesFuture (future_place positions.variables) (name_at (variable_names positions.variables)) (future-same positions) behind g.1.1,
     ) refl
 step-same positions labels roots places label_place at (Done value) g = ap (λ v. Done v) (term-same positions labels roots value g.1.0)
-
--- ---- labels
-
--- the label of a name that is given ahead stands where its steps say
-pub record LabelStands (code : List Line) (at : ℕ) (name : List ℕ) : Type 0 where
-  pub line : Line
-  pub stands : slice_get code at ≡ Some line
-  pub called : label_of line.instr ≡ name
-
-abbrev pub LabelsStand : Positions → List Item → Type 0
-LabelsStand positions items = (at : ℕ) (name : List ℕ) → is_among (label_names items) name ≡ true → LabelStands (code_from positions at items) (steps_to name items) name
-
-get-further : {X : Type 0} (x : X) (xs : List X) (n : ℕ) (y : X) → slice_get xs n ≡ Some y → slice_get (x ∷ xs) (n + 1) ≡ Some y
-get-further x xs n y e = ap (slice_get (x ∷ xs)) (add-one n) ∙ e
-
-labels-stand-step : (positions : Positions) (line : ℕ) (w : What) (items : List Item) → LabelsStand positions items → LabelsStand positions (record { line = line; what = w } ∷ items)
-unfolding code_from instr_of
-labels-stand-step positions line (what.Step (Label other)) items further at name h = by (same_bytes name other) refl h where
-  by : (b : Bool) → same_bytes name other ≡ b → (b || is_among (label_names items) name) ≡ true
-      → LabelStands (code_from positions at (record { line = line; what = what.Step (Label other) } ∷ items)) (cond b 0 (steps_to name items + 1)) name
-  by true e h = record { line = record { line = line; instr = _ }; stands = refl; called = sym (same-name name other e) }
-  by false e h = let r = further (at + 1) name h in record { line = r.line; stands = get-further _ (code_from positions (at + 1) items) (steps_to name items) r.line r.stands; called = r.called }
-labels-stand-step positions line (what.Step step) items further at name h = let r = further (at + 1) name h in record { line = r.line; stands = get-further _ (code_from positions (at + 1) items) (steps_to name items) r.line r.stands; called = r.called }
-labels-stand-step positions line w items further at name h = cc
-
-pub labels-stand : (positions : Positions) (items : List Item) → LabelsStand positions items
-labels-stand positions [] at name h = cc
-labels-stand positions (item ∷ items) at name h = labels-stand-step positions item.line item.what items (labels-stand positions items) at name h

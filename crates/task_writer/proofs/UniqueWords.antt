@@ -1,9 +1,5 @@
 -- Tidy words that spell a line are the words that are written of it.
 use Rattle.task_writer.proofs.Vocabulary.{◌≡◌, ◌≢◌, ℕ, ◌^◌, true, ◌&&◌, List, [], ◌∷◌, ◌++◌, map, length, refl, sym, ◌∙◌, ap, subst, append-nil, inl, inr, codes, decimal, nat_lt, list_all, digits_value, is_between, is_digit, Sort, Variable, Priority, High, Regular, Low, both, Word, begins_with_digit, Term, Passed, RootTerm, What, SpellsFuture, SpellsNumber, SpellsTerm, SpellsPassed, SpellsRootTerm, SpellsVariable, EachSpells, SpellsFutures, SpellsPriority, Spells, Part, GotoWord, ATerm, KindVariables, MoreVariables, Arguments, RootArguments, Members, HeldFutures, SettledFutures, Predecessor, APriority, LastPriority, Of, Values, Choice, Choices, part_words, entry, future_word, term_word, passed_word, root_term_word, variable_word, futures_words, priority_words, line_words, IsTidy, AllTidy}
-use Rattle.task_syntax.specs.declared.program.Sort.TheVariants as sort
-use Rattle.task_lines.specs.declared.step.Term.TheVariants as term
-use Rattle.task_lines.specs.declared.step.Passed.TheVariants as passed
-use Rattle.task_lines.specs.declared.item.RootTerm.TheVariants as root_term
 use Rattle.task_lines.specs.Table.{words_of}
 use Rattle.task_writer.proofs.Writable.{decimal-value}
 use Rattle.task_writer.proofs.WrittenParts.{part_written, parts_written, written}
@@ -19,20 +15,20 @@ number-unique word n s t =
     d.2 ∙ ap decimal (sym (decimal-value d.0 d.1) ∙ (ap (digits_value 10) (sym d.2) ∙ s.1))
 
 term-unique : (word : Word) (t : Term) → SpellsTerm word t → IsTidy word → word ≡ term_word t
-term-unique word (term.Literal n) s t = number-unique word n s t
-term-unique word (term.Variable name) s t = s.0
+term-unique word (Term.Literal n) s t = number-unique word n s t
+term-unique word (Term.Variable name) s t = s.0
 
 passed-unique : (word : Word) (a : Passed) → SpellsPassed word a → IsTidy word → word ≡ passed_word a
-passed-unique word (passed.Number t) s tidy = term-unique word t s tidy
-passed-unique word (passed.Future name) s tidy = s.0
+passed-unique word (Passed.Number t) s tidy = term-unique word t s tidy
+passed-unique word (Passed.Future name) s tidy = s.0
 
 root-term-unique : (word : Word) (a : RootTerm) → SpellsRootTerm word a → IsTidy word → word ≡ root_term_word a
-root-term-unique word (root_term.Number n) s tidy = number-unique word n s tidy
-root-term-unique word (root_term.Root name) s tidy = s.0
+root-term-unique word (RootTerm.Number n) s tidy = number-unique word n s tidy
+root-term-unique word (RootTerm.Root name) s tidy = s.0
 
 by-sort : (word : Word) (name : List ℕ) (s : Sort) → let v : Variable = record { name = name; sort = s } in SpellsVariable word v → word ≡ variable_word v
-by-sort word name sort.Number h = h.0
-by-sort word name sort.Future h = h.0
+by-sort word name Sort.Number h = h.0
+by-sort word name Sort.Future h = h.0
 
 variable-unique : (word : Word) (v : Variable) → SpellsVariable word v → IsTidy word → word ≡ variable_word v
 variable-unique word v s tidy = by-sort word v.name v.sort s

@@ -1,16 +1,10 @@
--- Every instruction of a well-formed program may be written.
-use Rattle.task_writer.proofs.Vocabulary.{◌≡◌, ◌≢◌, ℕ, zero, suc, ◌+◌, ◌<◌, Option, Some, None, List, [], ◌∷◌, map, drop, length, slice_get, refl, sym, ◌∙◌, ap, subst, arith, length-map, IfSome, IsName, EachAt, Each, IsNumberAt, IsFutureAt, IsFormedOperand, IsFormedArgument, IsFormedInstr, IsFormedState, IsFormedKind, IsLabelAhead, Sort, Variable, State, Kind, Program, Operand, Argument, Instr, get-map}
-use Rattle.std.proofs.Common.{option_map}
-use Rattle.task_syntax.specs.declared.program.Sort.TheVariants as sort
-use Rattle.task_syntax.specs.declared.instr.Operand.TheVariants as operand
-use Rattle.task_syntax.specs.declared.instr.Argument.TheVariants as argument
-use Rattle.task_syntax.specs.declared.instr.Instr.TheVariants.{Set, Math, If, Goto, Label, Cell, Rows, Spawn, All, Copy, Drop, Get, Again, Done}
-use Rattle.task_lines.specs.declared.item.What.TheVariants as what
-use Rattle.task_writer.specs.Lines.{name_at, kind_names, variable_names, label_names, names_in, term_of, passed_of, step_of}
+-- The names that a well-formed program has at its positions are names.
+use Rattle.task_writer.proofs.Vocabulary.{◌≡◌, ◌≢◌, ℕ, zero, suc, ◌+◌, ◌<◌, Option, Some, None, List, [], ◌∷◌, map, drop, length, slice_get, refl, sym, ◌∙◌, ap, subst, arith, length-map, IfSome, IsName, EachAt, Each, IsFormedInstr, IsFormedState, IsFormedKind, IsLabelAhead, Sort, Variable, State, Kind, Program, Instr, get-map, option_map, name_at, variable_names, label_names}
+use Rattle.task_syntax.specs.declared.instr.Instr.TheVariants.{Label}
 use Rattle.task_writer.proofs.Named.{name-found}
 use Rattle.task_writer.proofs.ReadPlaces.{named-at, stands-at}
 use Rattle.task_writer.proofs.ReadCode.{label-at}
-use Rattle.task_writer.proofs.Writable.{AllOf, IsWritableTerm, IsWritablePassed, IsWritable}
+use Rattle.task_writer.proofs.Writable.{AllOf}
 
 -- what stands at a position of named things has a name
 pub position-named : {X : Type 0} (name : X → List ℕ) (xs : List X) → Each xs (λ x. IsName (name x)) → (at : ℕ) → at < length xs → IsName (name_at (map name xs) at)
@@ -54,15 +48,7 @@ are-named p kind state kinds k s = record {
   labels = label-named p kind state s.instrs;
 }
 
--- ---- instructions
-
-term-writable : (kind : Kind) → Each kind.variables (λ (v : Variable). IsName v.name) → (a : Operand) → IsFormedOperand kind a → IsWritableTerm (term_of (variable_names kind.variables) a)
-term-writable kind h (operand.Literal n) f = f
-term-writable kind h (operand.Variable at) f = variable-named kind h sort.Number at f
-
-passed-writable : (kind : Kind) → Each kind.variables (λ (v : Variable). IsName v.name) → (a : Argument) → IsFormedArgument kind a → IsWritablePassed (passed_of (variable_names kind.variables) a)
-passed-writable kind h (argument.Number a) f = term-writable kind h a f
-passed-writable kind h (argument.Future at) f = variable-named kind h sort.Future at f
+-- ---- lists
 
 pub all-writable : {A B : Type 0} (P : A → Type 0) (Q : B → Type 0) (f : A → B) → ((a : A) → P a → Q (f a)) → (xs : List A) → Each xs P → AllOf Q (map f xs)
 all-writable P Q f one [] h = tt
@@ -75,53 +61,3 @@ some-writable P f one (Some a) h = one a h
 pub map-begun : {A B : Type 0} (f : A → B) (xs : List A) → 0 < length xs → map f xs ≢ []
 map-begun f [] h e = omega (arith, h)
 map-begun f (x ∷ xs) h e = cc
-
-pub step-writable : (p : Program) (kind : Kind) (state : State) → AreNamed p kind state → (at : ℕ) (instr : Instr) → IsFormedInstr p kind state at instr
-    → IsWritable (what.Step (step_of (names_in (kind_names p.kinds) kind state) instr))
-unfolding step_of
-step-writable p kind state n at instr f = by instr f where
-  number : (at : ℕ) → IsNumberAt kind at → IsName (name_at (variable_names kind.variables) at)
-  number at h = variable-named kind n.variables sort.Number at h
-
-  future : (at : ℕ) → IsFutureAt kind at → IsName (name_at (variable_names kind.variables) at)
-  future at h = variable-named kind n.variables sort.Future at h
-
-  term : (a : Operand) → IsFormedOperand kind a → IsWritableTerm (term_of (variable_names kind.variables) a)
-  term a h = term-writable kind n.variables a h
-
-  before : (behind : Option ℕ) → IfSome behind (IsFutureAt kind) → IfSome (option_map (name_at (variable_names kind.variables)) behind) IsName
-  before behind h = some-writable (IsFutureAt kind) (name_at (variable_names kind.variables)) future behind h
-
-  by : (instr : Instr) → IsFormedInstr p kind state at instr → IsWritable (what.Step (step_of (names_in (kind_names p.kinds) kind state) instr))
-  by (Set to value) f = (number to f.0, (term value f.1, tt))
-  by (Math op to left right) f = (number to f.0, (term left f.1, (term right f.2, tt)))
-  by (If relation left right target) f = (term left f.0, (tt, (term right f.1, (tt, (n.labels at target f.2, tt)))))
-  by (Goto target) f = (n.labels at target f, tt)
-  by (Label name) f = (f, tt)
-  by (Cell to column row) f = (number to f.0, (f.1, (term row f.2, tt)))
-  by (Rows to column) f = (number to f.0, (f.1, tt))
-  by (Spawn to callee arguments behind priority retry) f = (
-    future to f.0,
-    (
-      position-named (λ (k : Kind). k.name) p.kinds n.kinds callee f.1,
-      (
-        all-writable (IsFormedArgument kind) IsWritablePassed (passed_of (variable_names kind.variables)) (passed-writable kind n.variables) arguments f.3,
-        (before behind f.4, (tt, (tt, tt))),
-      ),
-    ),
-  )
-  by (All to members priority retry) f = (
-    future to f.0,
-    (
-      (
-        map-begun (name_at (variable_names kind.variables)) members f.1,
-        all-writable (IsFutureAt kind) IsName (name_at (variable_names kind.variables)) future members f.3,
-      ),
-      (tt, (tt, tt)),
-    ),
-  )
-  by (Copy to source) f = (future to f.0, (future source f.1, tt))
-  by (Drop released) f = (future released f, tt)
-  by (Get to settled) f = (number to f.0, (future settled f.1, tt))
-  by (Again target behind priority) f = (position-named (λ (s : State). s.name) kind.states n.states target f.0, (before behind f.1, (tt, tt)))
-  by (Done value) f = (term value f, tt)

@@ -1,9 +1,6 @@
 -- The words that are written of a line are those of its parts, one part after the other.
-use Rattle.task_writer.proofs.Vocabulary.{◌≡◌, List, [], ◌∷◌, ◌++◌, map, refl, codes, Word, What, Part, GotoWord, AName, ANewName, ATarget, ATerm, ARelation, AFuture, KindVariables, MoreVariables, Arguments, RootArguments, Members, HeldFutures, SettledFutures, Predecessor, APriority, LastPriority, ARetry, Of, Values, entry}
-use Rattle.task_lines.specs.declared.step.Step.TheVariants.{Set}
-use Rattle.task_lines.specs.declared.item.What.TheVariants as what
+use Rattle.task_writer.proofs.Vocabulary.{◌≡◌, List, [], ◌∷◌, ◌++◌, map, refl, codes, Word, What, Part, GotoWord, AName, ANewName, ATarget, ATerm, ARelation, AFuture, KindVariables, MoreVariables, Arguments, RootArguments, Members, HeldFutures, SettledFutures, Predecessor, APriority, LastPriority, ARetry, Of, Values, entry, Set, term_word, passed_word, root_term_word, variable_word, futures_words, priority_words, line_words}
 use Rattle.task_lines.specs.Spelling.{future_word, relation_word, behind_words, retry_words}
-use Rattle.task_writer.specs.Words.{term_word, passed_word, root_term_word, variable_word, futures_words, priority_words, line_words}
 
 -- the words of a part
 abbrev pub part_written : (part : Part) → Of part → List Word
@@ -34,7 +31,7 @@ parts_written (part ∷ next ∷ parts) vs = part_written part vs.0 ++ parts_wri
 
 -- the words that are written of a line are those of its entry
 pub written : (w : What) → line_words w ≡ (entry w).word ∷ parts_written (entry w).parts (entry w).values
-written (what.Kind name arguments) = refl
-written (what.Step (Set to value)) = refl
-written (what.Step _) = refl
+written (What.Kind name arguments) = refl
+written (What.Step (Set to value)) = refl
+written (What.Step _) = refl
 written _ = refl

@@ -1,9 +1,9 @@
 -- What makes a text canonical, apart from the program that it is of.
-use Rattle.std.specs.Prelude.{◌≡◌, ◌≢◌, ℕ, ◌<◌, ◌^◌, Bool, not, ◌&&◌, nat_eq, List, [], ◌∷◌, ◌++◌, IsTrue, codes, decimal}
 use Rattle.std.specs.List.{list_all, flat_map, join_with_byte}
+use Rattle.std.specs.Prelude.{◌≡◌, ◌≢◌, ℕ, ◌<◌, ◌^◌, Bool, not, ◌&&◌, nat_eq, List, [], ◌∷◌, ◌++◌, IsTrue, codes, decimal}
 use Rattle.task_syntax.specs.Names.{is_between}
-use Rattle.task_text.specs.Text.{Word}
 use Rattle.task_text.specs.Scan.{begins_with_digit, first_of}
+use Rattle.task_text.specs.Text.{Word}
 
 -- the bytes of words: no blank, no line end, and no number sign, which begins a comment
 abbrev pub is_plain : ℕ → Bool

@@ -1,8 +1,8 @@
 -- What holds of canonical texts and their programs.
 use Rattle.std.specs.Prelude.{◌≡◌, ℕ, List, Ok}
+use Rattle.task_reader.specs.Read.{program_in}
 use Rattle.task_syntax.specs.Form.{IsWellFormed}
 use Rattle.task_syntax.specs.declared.program.Program.{Program}
-use Rattle.task_reader.specs.Read.{program_in}
 use Rattle.task_writer.specs.Text.{text_of}
 use Rattle.task_writer.specs.Numbering.{renumbered}
 use Rattle.task_writer.specs.Same.{AreSameButLines}

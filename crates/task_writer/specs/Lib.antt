@@ -1,6 +1,5 @@
 pub mod Words
 pub mod Lines
-pub mod Groups
 pub mod Text
 pub mod Numbering
 pub mod Same

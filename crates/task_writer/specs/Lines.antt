@@ -1,31 +1,23 @@
 -- The lines of a program, over the names that its positions stand for.
-use Rattle.std.specs.Prelude.{ℕ, List, [], ◌∷◌, ◌++◌, map, take, drop, slice_get, unwrap_or, option_map, length, ◌≤◌}
-use Rattle.task_syntax.specs.Places.{Each}
 use Rattle.std.specs.List.{flat_map}
-use Rattle.task_syntax.specs.declared.instr.Operand.{Operand}
-use Rattle.task_syntax.specs.declared.instr.Operand.TheVariants as operand
+use Rattle.std.specs.Prelude.{ℕ, List, [], ◌∷◌, ◌++◌, map, take, drop, slice_get, unwrap_or, option_map, length, ◌≤◌}
+use Rattle.task_lines.specs.declared.item.RootTerm.{RootTerm}
+use Rattle.task_lines.specs.declared.item.What.{What}
+use Rattle.task_lines.specs.declared.step.Passed.{Passed}
+use Rattle.task_lines.specs.declared.step.Step.{Step}
+use Rattle.task_lines.specs.declared.step.Term.{Term}
+use Rattle.task_syntax.specs.Places.{Each}
 use Rattle.task_syntax.specs.declared.instr.Argument.{Argument}
-use Rattle.task_syntax.specs.declared.instr.Argument.TheVariants as argument
 use Rattle.task_syntax.specs.declared.instr.Instr.{Instr}
 use Rattle.task_syntax.specs.declared.instr.Instr.TheVariants.{Set, Math, If, Goto, Label, Cell, Rows, Spawn, All, Copy, Drop, Get, Again, Done}
 use Rattle.task_syntax.specs.declared.instr.Line.{Line}
-use Rattle.task_syntax.specs.declared.program.Variable.{Variable}
-use Rattle.task_syntax.specs.declared.program.State.{State}
+use Rattle.task_syntax.specs.declared.instr.Operand.{Operand}
 use Rattle.task_syntax.specs.declared.program.Kind.{Kind}
-use Rattle.task_syntax.specs.declared.program.RootArgument.{RootArgument}
-use Rattle.task_syntax.specs.declared.program.RootArgument.TheVariants as root_argument
-use Rattle.task_syntax.specs.declared.program.Root.{Root}
 use Rattle.task_syntax.specs.declared.program.Program.{Program}
-use Rattle.task_lines.specs.declared.step.Term.{Term}
-use Rattle.task_lines.specs.declared.step.Term.TheVariants as term
-use Rattle.task_lines.specs.declared.step.Passed.{Passed}
-use Rattle.task_lines.specs.declared.step.Passed.TheVariants as passed
-use Rattle.task_lines.specs.declared.step.Step.{Step}
-use Rattle.task_lines.specs.declared.step.Step.TheVariants as step
-use Rattle.task_lines.specs.declared.item.RootTerm.{RootTerm}
-use Rattle.task_lines.specs.declared.item.RootTerm.TheVariants as root_term
-use Rattle.task_lines.specs.declared.item.What.{What}
-use Rattle.task_lines.specs.declared.item.What.TheVariants as what
+use Rattle.task_syntax.specs.declared.program.Root.{Root}
+use Rattle.task_syntax.specs.declared.program.RootArgument.{RootArgument}
+use Rattle.task_syntax.specs.declared.program.State.{State}
+use Rattle.task_syntax.specs.declared.program.Variable.{Variable}
 
 -- ---- names
 
@@ -70,32 +62,36 @@ names_in kinds kind state = record {
   labels = label_names state.code;
 }
 
+-- names that say nothing: which instruction a step is can be read without them
+abbrev pub nameless : Names
+nameless = record { kinds = []; variables = []; states = []; labels = [] }
+
 -- ---- instructions
 
 abbrev pub term_of : List (List ℕ) → Operand → Term
-term_of variables (operand.Literal n) = term.Literal n
-term_of variables (operand.Variable at) = term.Variable (name_at variables at)
+term_of variables (Operand.Literal n) = Term.Literal n
+term_of variables (Operand.Variable at) = Term.Variable (name_at variables at)
 
 abbrev pub passed_of : List (List ℕ) → Argument → Passed
-passed_of variables (argument.Number a) = passed.Number (term_of variables a)
-passed_of variables (argument.Future at) = passed.Future (name_at variables at)
+passed_of variables (Argument.Number a) = Passed.Number (term_of variables a)
+passed_of variables (Argument.Future at) = Passed.Future (name_at variables at)
 
 unfoldable pub step_of : Names → Instr → Step
-step_of n (Set to value) = step.Set (name_at n.variables to) (term_of n.variables value)
-step_of n (Math op to left right) = step.Math op (name_at n.variables to) (term_of n.variables left) (term_of n.variables right)
-step_of n (If relation left right target) = step.If relation (term_of n.variables left) (term_of n.variables right) (name_at n.labels target)
-step_of n (Goto target) = step.Goto (name_at n.labels target)
-step_of n (Label name) = step.Label name
-step_of n (Cell to column row) = step.Cell (name_at n.variables to) column (term_of n.variables row)
-step_of n (Rows to column) = step.Rows (name_at n.variables to) column
+step_of n (Set to value) = Step.Set (name_at n.variables to) (term_of n.variables value)
+step_of n (Math op to left right) = Step.Math op (name_at n.variables to) (term_of n.variables left) (term_of n.variables right)
+step_of n (If relation left right target) = Step.If relation (term_of n.variables left) (term_of n.variables right) (name_at n.labels target)
+step_of n (Goto target) = Step.Goto (name_at n.labels target)
+step_of n (Label name) = Step.Label name
+step_of n (Cell to column row) = Step.Cell (name_at n.variables to) column (term_of n.variables row)
+step_of n (Rows to column) = Step.Rows (name_at n.variables to) column
 step_of n (Spawn to kind arguments behind priority retry) =
-    step.Spawn (name_at n.variables to) (name_at n.kinds kind) (map (passed_of n.variables) arguments) (option_map (name_at n.variables) behind) priority retry
-step_of n (All to members priority retry) = step.All (name_at n.variables to) (map (name_at n.variables) members) priority retry
-step_of n (Copy to source) = step.Copy (name_at n.variables to) (name_at n.variables source)
-step_of n (Drop future) = step.Drop (name_at n.variables future)
-step_of n (Get to future) = step.Get (name_at n.variables to) (name_at n.variables future)
-step_of n (Again target behind priority) = step.Again (name_at n.states target) (option_map (name_at n.variables) behind) priority
-step_of n (Done value) = step.Done (term_of n.variables value)
+    Step.Spawn (name_at n.variables to) (name_at n.kinds kind) (map (passed_of n.variables) arguments) (option_map (name_at n.variables) behind) priority retry
+step_of n (All to members priority retry) = Step.All (name_at n.variables to) (map (name_at n.variables) members) priority retry
+step_of n (Copy to source) = Step.Copy (name_at n.variables to) (name_at n.variables source)
+step_of n (Drop future) = Step.Drop (name_at n.variables future)
+step_of n (Get to future) = Step.Get (name_at n.variables to) (name_at n.variables future)
+step_of n (Again target behind priority) = Step.Again (name_at n.states target) (option_map (name_at n.variables) behind) priority
+step_of n (Done value) = Step.Done (term_of n.variables value)
 
 -- ---- lines
 
@@ -104,32 +100,32 @@ abbrev pub HaveArguments : List Kind → Type 0
 HaveArguments kinds = Each kinds (λ (k : Kind). k.arguments ≤ length k.variables)
 
 abbrev pub code_lines : Names → List Line → List What
-code_lines n code = map (λ (l : Line). what.Step (step_of n l.instr)) code
+code_lines n code = map (λ (l : Line). What.Step (step_of n l.instr)) code
 
 -- the line of the state, and one for each instruction
 unfoldable pub state_lines : List (List ℕ) → Kind → State → List What
 state_lines kinds kind state =
-    what.State state.name (map (name_at (variable_names kind.variables)) state.holds) (map (name_at (variable_names kind.variables)) state.settled)
+    What.State state.name (map (name_at (variable_names kind.variables)) state.holds) (map (name_at (variable_names kind.variables)) state.settled)
     ∷ code_lines (names_in kinds kind state) state.code
 
 -- one line for all local variables, and none where there are none
 abbrev pub var_lines : List Variable → List What
 var_lines [] = []
-var_lines (v ∷ vs) = what.Var (v ∷ vs) ∷ []
+var_lines (v ∷ vs) = What.Var (v ∷ vs) ∷ []
 
 -- the line of the kind with its arguments, its other variables, its states, and its end
 unfoldable pub kind_lines : List (List ℕ) → Kind → List What
 kind_lines kinds kind =
-    what.Kind kind.name (take kind.arguments kind.variables)
-    ∷ (var_lines (drop kind.arguments kind.variables) ++ (flat_map (state_lines kinds kind) kind.states ++ what.End ∷ []))
+    What.Kind kind.name (take kind.arguments kind.variables)
+    ∷ (var_lines (drop kind.arguments kind.variables) ++ (flat_map (state_lines kinds kind) kind.states ++ What.End ∷ []))
 
 abbrev pub root_term_of : List (List ℕ) → RootArgument → RootTerm
-root_term_of roots (root_argument.Number n) = root_term.Number n
-root_term_of roots (root_argument.Root at) = root_term.Root (name_at roots at)
+root_term_of roots (RootArgument.Number n) = RootTerm.Number n
+root_term_of roots (RootArgument.Root at) = RootTerm.Root (name_at roots at)
 
 unfoldable pub root_line : List (List ℕ) → List (List ℕ) → Root → What
 root_line kinds roots root =
-    what.Root root.name (name_at kinds root.kind) (map (root_term_of roots) root.arguments) (option_map (name_at roots) root.behind) root.priority
+    What.Root root.name (name_at kinds root.kind) (map (root_term_of roots) root.arguments) (option_map (name_at roots) root.behind) root.priority
 
 -- the kinds, and then the roots
 unfoldable pub lines_of_program : Program → List What

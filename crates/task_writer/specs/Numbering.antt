@@ -1,11 +1,11 @@
 -- A program whose lines have the numbers of its canonical text.
-use Rattle.std.specs.Prelude.{ℕ, ◌+◌, List, [], ◌∷◌, length, drop}
 use Rattle.std.specs.List.{flat_map}
+use Rattle.std.specs.Prelude.{ℕ, ◌+◌, List, [], ◌∷◌, length, drop}
 use Rattle.task_syntax.specs.declared.instr.Line.{Line}
-use Rattle.task_syntax.specs.declared.program.State.{State}
 use Rattle.task_syntax.specs.declared.program.Kind.{Kind}
-use Rattle.task_syntax.specs.declared.program.Root.{Root}
 use Rattle.task_syntax.specs.declared.program.Program.{Program}
+use Rattle.task_syntax.specs.declared.program.Root.{Root}
+use Rattle.task_syntax.specs.declared.program.State.{State}
 use Rattle.task_writer.specs.Lines.{kind_names, state_lines, var_lines, kind_lines}
 
 -- instructions whose first stands on the line `at`; so with the others below

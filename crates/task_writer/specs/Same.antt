@@ -1,10 +1,10 @@
 -- Programs that differ in the numbers of their lines alone.
 use Rattle.std.specs.Prelude.{◌≡◌, map}
 use Rattle.task_syntax.specs.declared.instr.Line.{Line}
-use Rattle.task_syntax.specs.declared.program.State.{State}
 use Rattle.task_syntax.specs.declared.program.Kind.{Kind}
-use Rattle.task_syntax.specs.declared.program.Root.{Root}
 use Rattle.task_syntax.specs.declared.program.Program.{Program}
+use Rattle.task_syntax.specs.declared.program.Root.{Root}
+use Rattle.task_syntax.specs.declared.program.State.{State}
 
 -- with 0 in place of each line number
 abbrev pub unnumbered_line : Line → Line

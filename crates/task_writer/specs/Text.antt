@@ -1,9 +1,9 @@
 -- The canonical text of a program: the header and its lines.
-use Rattle.std.specs.Prelude.{ℕ, List, [], ◌∷◌, ◌++◌, codes}
 use Rattle.std.specs.List.{flat_map}
+use Rattle.std.specs.Prelude.{ℕ, List, [], ◌∷◌, ◌++◌, codes}
+use Rattle.task_lines.specs.declared.item.What.{What}
 use Rattle.task_syntax.specs.declared.program.Program.{Program}
 use Rattle.task_text.specs.Text.{Word}
-use Rattle.task_lines.specs.declared.item.What.{What}
 use Rattle.task_writer.specs.Words.{line_words}
 use Rattle.task_writer.specs.Lines.{lines_of_program}
 

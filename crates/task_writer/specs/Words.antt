@@ -1,33 +1,29 @@
 -- The words of a line as they are written: the shortest that spell it.
 use Rattle.std.specs.Prelude.{ℕ, List, [], ◌∷◌, ◌++◌, map, codes, decimal}
-use Rattle.task_syntax.specs.declared.program.Sort.TheVariants as sort
+use Rattle.task_lines.specs.Spelling.{future_word, operation_word, relation_word, behind_words, retry_words}
+use Rattle.task_lines.specs.declared.item.RootTerm.{RootTerm}
+use Rattle.task_lines.specs.declared.item.What.{What}
+use Rattle.task_lines.specs.declared.step.Passed.{Passed}
+use Rattle.task_lines.specs.declared.step.Step.{Step}
+use Rattle.task_lines.specs.declared.step.Term.{Term}
 use Rattle.task_syntax.specs.declared.program.Variable.{Variable}
 use Rattle.task_syntax.specs.declared.value.Priority.{Priority}
 use Rattle.task_syntax.specs.declared.value.Priority.TheVariants.{High, Regular, Low}
 use Rattle.task_text.specs.Text.{Word}
-use Rattle.task_lines.specs.declared.step.Term.{Term}
-use Rattle.task_lines.specs.declared.step.Term.TheVariants as term
-use Rattle.task_lines.specs.declared.step.Passed.{Passed}
-use Rattle.task_lines.specs.declared.step.Passed.TheVariants as passed
-use Rattle.task_lines.specs.declared.step.Step.{Step}
+use Rattle.task_syntax.specs.declared.program.Sort.TheVariants as sort
 use Rattle.task_lines.specs.declared.step.Step.TheVariants.{Set, Math, If, Goto, Label, Cell, Rows, Spawn, All, Copy, Drop, Get, Again, Done}
-use Rattle.task_lines.specs.declared.item.RootTerm.{RootTerm}
-use Rattle.task_lines.specs.declared.item.RootTerm.TheVariants as root_term
-use Rattle.task_lines.specs.declared.item.What.{What}
-use Rattle.task_lines.specs.declared.item.What.TheVariants as what
-use Rattle.task_lines.specs.Spelling.{future_word, operation_word, relation_word, behind_words, retry_words}
 
 abbrev pub term_word : Term → Word
-term_word (term.Literal n) = decimal n
-term_word (term.Variable name) = name
+term_word (Term.Literal n) = decimal n
+term_word (Term.Variable name) = name
 
 abbrev pub passed_word : Passed → Word
-passed_word (passed.Number t) = term_word t
-passed_word (passed.Future name) = future_word name
+passed_word (Passed.Number t) = term_word t
+passed_word (Passed.Future name) = future_word name
 
 abbrev pub root_term_word : RootTerm → Word
-root_term_word (root_term.Number n) = decimal n
-root_term_word (root_term.Root name) = future_word name
+root_term_word (RootTerm.Number n) = decimal n
+root_term_word (RootTerm.Root name) = future_word name
 
 abbrev pub variable_word : Variable → Word
 variable_word variable = elim variable.sort [ sort.Number ↦ variable.name | sort.Future ↦ future_word variable.name ]
@@ -62,11 +58,11 @@ step_words (Again target behind priority) = codes "again" ∷ target ∷ (behind
 step_words (Done value) = codes "done" ∷ term_word value ∷ []
 
 abbrev pub line_words : What → List Word
-line_words (what.Kind name arguments) = codes "kind" ∷ name ∷ map variable_word arguments
-line_words (what.Var variables) = codes "var" ∷ map variable_word variables
-line_words (what.State name holds settled) =
+line_words (What.Kind name arguments) = codes "kind" ∷ name ∷ map variable_word arguments
+line_words (What.Var variables) = codes "var" ∷ map variable_word variables
+line_words (What.State name holds settled) =
     codes "state" ∷ name ∷ (futures_words (codes "holds") holds ++ futures_words (codes "settled") settled)
-line_words (what.Step step) = step_words step
-line_words what.End = codes "end" ∷ []
-line_words (what.Root name kind arguments behind priority) =
+line_words (What.Step step) = step_words step
+line_words What.End = codes "end" ∷ []
+line_words (What.Root name kind arguments behind priority) =
     codes "root" ∷ name ∷ kind ∷ (map root_term_word arguments ++ (behind_words behind ++ priority_words priority))

@@ -1,10 +1,10 @@
 ghost use Rattle.std.specs.Prelude.{◌≡◌, ◌++◌, ◌∷◌, [], ℕ, List as ListOf, codes, map, option_map, OnOk};
 ghost use Rattle.task_syntax.specs.declared.program.State.{State as StateOf};
 ghost use Rattle.task_lines.specs.Grammar.{future_word, operation_word, relation_word, behind_words, retry_words};
-ghost use Rattle.task_writer.specs.Lines.{name_at, kind_names, variable_names, names_in, term_of, passed_of, step_of};
+ghost use Rattle.task_writer.specs.Lines.{nameless, name_at, kind_names, variable_names, names_in, term_of, passed_of, step_of};
 ghost use Rattle.task_writer.specs.Words.{term_word, passed_word, priority_words, step_words};
 ghost use Rattle.task_writer.specs.Text.{spaced, parted, line_text};
-ghost use Rattle.task_writer.specs.Groups.{SetsNumber, SetsFuture, SaysWhere};
+ghost use Rattle.task_lines.specs.Groups.{SetsNumber, SetsFuture, SaysWhere};
 
 use crate::list::{put_arguments, put_futures};
 use crate::name::{kind_name, label_name, state_name, variable_name};
@@ -290,7 +290,7 @@ fn put_done(out: &mut Vec<u8>, variables: &[Variable], value: Operand) -> Result
 /// Writes the line of an instruction that sets a number.
 #[tactic(auto, unfolding(crate::specs::Lines::step_of), using(crate::proofs::Putting::long_lines))]
 fn put_number_step(out: &mut Vec<u8>, kind: &Kind, instr: &Instr) -> Result<(), AllocError>
-    requires { SetsNumber instr.now }
+    requires { SetsNumber (step_of nameless instr.now) }
     ensures { (kinds : ListOf (ListOf ℕ)) (state : StateOf) → OnOk result
         (out.new.items ≡ out.old.items
         ++ line_text (step_words (step_of (names_in kinds kind.now state) instr.now))) }
@@ -325,7 +325,7 @@ fn put_future_step(
     kind: &Kind,
     instr: &Instr,
 ) -> Result<(), AllocError>
-    requires { SetsFuture instr.now }
+    requires { SetsFuture (step_of nameless instr.now) }
     ensures { (state : StateOf) → OnOk result
         (out.new.items ≡ out.old.items
         ++ line_text (step_words
@@ -371,7 +371,7 @@ fn put_going_step(
     state: &State,
     instr: &Instr,
 ) -> Result<(), AllocError>
-    requires { SaysWhere instr.now }
+    requires { SaysWhere (step_of nameless instr.now) }
     ensures { (kinds : ListOf (ListOf ℕ)) → OnOk result
         (out.new.items ≡ out.old.items
         ++ line_text (step_words (step_of (names_in kinds kind.now state.now) instr.now))) }
@@ -405,6 +405,7 @@ fn put_going_step(
 }
 
 /// Writes the line of an instruction in a state of a kind.
+#[tactic(auto, unfolding(crate::specs::Lines::step_of))]
 pub fn put_step(
     out: &mut Vec<u8>,
     kinds: &[Kind],

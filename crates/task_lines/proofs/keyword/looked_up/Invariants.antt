@@ -1,5 +1,4 @@
-use Rattle.std.proofs.Common.{◌≡◌, length, map}
-use Rattle.task_lines.specs.Keyword.{looked_up}
+use Rattle.task_lines.proofs.Vocabulary.{◌≡◌, length, map, looked_up}
 use Rattle.task_lines.proofs.keyword.looked_up.Given as goal
 
 abbrev pub invariant-loop-table : goal.invariant-loop-table

@@ -1,6 +1,4 @@
-use Rattle.std.proofs.Common.{◌≡◌, ◌+◌, ◌<◌, ◌^◌, length}
-use Rattle.task_lines.specs.Scope.{first_scope}
-use Rattle.task_lines.specs.Reading.{items_from}
+use Rattle.task_lines.proofs.Vocabulary.{◌≡◌, ◌+◌, ◌<◌, ◌^◌, length, first_scope, items_from}
 use Rattle.task_lines.proofs.Items.{behind}
 use Rattle.task_lines.proofs.reading.items_from.Given as goal
 

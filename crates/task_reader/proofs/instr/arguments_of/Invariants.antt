@@ -1,5 +1,4 @@
-use Rattle.std.proofs.Common.{◌≡◌, map, take}
-use Rattle.task_reader.specs.Program.{argument_of}
+use Rattle.task_reader.proofs.Vocabulary.{◌≡◌, map, take, argument_of}
 use Rattle.task_reader.proofs.instr.arguments_of.Given as goal
 
 abbrev pub invariant-loop-passed : goal.invariant-loop-passed

@@ -1,6 +1,4 @@
-use Rattle.std.proofs.Common.{◌≡◌, ◌+◌, ◌++◌, drop, arith, ap, ◌∙◌}
-use Rattle.task_reader.specs.Program.{kinds_from}
-use Rattle.task_reader.specs.Parts.{kind_at}
+use Rattle.task_reader.proofs.Vocabulary.{◌≡◌, ◌+◌, ◌++◌, drop, arith, ap, ◌∙◌, kinds_from, kind_at}
 use Rattle.task_reader.proofs.WalkLemmas.{short-turn}
 use Rattle.task_reader.proofs.GatherLemmas.{gather-turn, gather-end, kinds-step, kinds-none}
 use Rattle.task_reader.proofs.kind.kinds_of.Goals as goal

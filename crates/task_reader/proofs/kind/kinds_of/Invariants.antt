@@ -1,6 +1,4 @@
-use Rattle.std.proofs.Common.{◌≡◌, ◌++◌, drop}
-use Rattle.task_reader.specs.Program.{kinds_from}
-use Rattle.task_reader.specs.Fits.{EachIsShort}
+use Rattle.task_reader.proofs.Vocabulary.{◌≡◌, ◌++◌, drop, kinds_from, EachIsShort}
 use Rattle.task_reader.proofs.kind.kinds_of.Given as goal
 
 abbrev pub invariant-items : goal.invariant-items

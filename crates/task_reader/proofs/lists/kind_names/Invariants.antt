@@ -1,5 +1,4 @@
-use Rattle.std.proofs.Common.{◌≡◌, ◌++◌, drop}
-use Rattle.task_reader.specs.Names.{kind_names}
+use Rattle.task_reader.proofs.Vocabulary.{◌≡◌, ◌++◌, drop, kind_names}
 use Rattle.task_reader.proofs.lists.kind_names.Given as goal
 
 abbrev pub invariant-items : goal.invariant-items

@@ -1,5 +1,4 @@
-use Rattle.std.proofs.Common.{◌≡◌, ◌++◌, drop}
-use Rattle.task_reader.specs.Names.{state_names}
+use Rattle.task_reader.proofs.Vocabulary.{◌≡◌, ◌++◌, drop, state_names}
 use Rattle.task_reader.proofs.lists.state_names.Given as goal
 
 abbrev pub invariant-items : goal.invariant-items

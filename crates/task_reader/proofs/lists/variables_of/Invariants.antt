@@ -1,5 +1,4 @@
-use Rattle.std.proofs.Common.{◌≡◌, ◌++◌, drop}
-use Rattle.task_reader.specs.Program.{variables_from}
+use Rattle.task_reader.proofs.Vocabulary.{◌≡◌, ◌++◌, drop, variables_from}
 use Rattle.task_reader.proofs.lists.variables_of.Given as goal
 
 abbrev pub invariant-lines : goal.invariant-lines

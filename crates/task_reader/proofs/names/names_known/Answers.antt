@@ -1,5 +1,6 @@
+use Rattle.task_lines.proofs.Items.{steps_counted}
 use Rattle.task_reader.proofs.Vocabulary.{◌≡◌, sym, ◌∙◌, arith, err_from_is_err_and, after}
-use Rattle.task_reader.proofs.WalkLemmas.{short-turn, names-fault-or, names-next, names-done, steps-after}
+use Rattle.task_reader.proofs.WalkLemmas.{short-turn, names-fault-or, names-next, names-done}
 use Rattle.task_reader.proofs.names.names_known.Goals as goal
 
 pub returns-in_err-item_known : goal.returns-in_err-item_known
@@ -15,7 +16,7 @@ items-preserved c =
     let turn = short-turn items c.items.at item (omega arith) c.index-items-at.is c.items.invariant.short in
     record {
       short = turn.1;
-      steps = rw passed (omega (arith, steps-after c.items.scope item.what));
+      steps = rw passed (omega (arith, steps_counted c.items.scope item.what));
       same = rw passed (sym (names-next items items c.args.kinds.now c.items.scope c.items.at item _ c.requires.names (omega arith) c.index-items-at.is (rw (← c.split_at.ensures.back) c.in_ok-item_known.ensures.known)) ∙ c.items.invariant.same);
     }
 

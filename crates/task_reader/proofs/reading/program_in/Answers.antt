@@ -1,5 +1,4 @@
-use Rattle.std.proofs.Common.{sym, subst}
-use Rattle.task_reader.specs.Fits.{Fit}
+use Rattle.task_reader.proofs.Vocabulary.{sym, subst, Fit}
 use Rattle.task_reader.proofs.ReadLaws.{items_read}
 use Rattle.task_reader.proofs.reading.program_in.Goals as goal
 

@@ -1,5 +1,4 @@
-use Rattle.std.proofs.Common.{◌≡◌, map, take}
-use Rattle.task_reader.specs.Program.{root_argument_of}
+use Rattle.task_reader.proofs.Vocabulary.{◌≡◌, map, take, root_argument_of}
 use Rattle.task_reader.proofs.root.root_arguments_of.Given as goal
 
 abbrev pub invariant-loop-term : goal.invariant-loop-term

@@ -1,6 +1,4 @@
-use Rattle.std.proofs.Common.{◌≡◌, ℕ, ◌+◌, ◌++◌, [], List, drop, arith, sym, ap, ◌∙◌}
-use Rattle.task_reader.specs.Program.{roots_from}
-use Rattle.task_reader.specs.Parts.{root_at, root_name_at}
+use Rattle.task_reader.proofs.Vocabulary.{◌≡◌, ℕ, ◌+◌, ◌++◌, [], List, drop, arith, sym, ap, ◌∙◌, roots_from, root_at, root_name_at}
 use Rattle.task_reader.proofs.GatherLemmas.{gather-turn, gather-end, roots-step, roots-none, roots-room}
 use Rattle.task_reader.proofs.root.roots_of.Goals as goal
 

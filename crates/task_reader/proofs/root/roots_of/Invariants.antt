@@ -1,6 +1,4 @@
-use Rattle.std.proofs.Common.{◌≡◌, ◌≤◌, ◌+◌, ◌++◌, [], length, drop}
-use Rattle.task_reader.specs.Program.{roots_from}
-use Rattle.task_reader.specs.Fits.{root_names}
+use Rattle.task_reader.proofs.Vocabulary.{◌≡◌, ◌≤◌, ◌+◌, ◌++◌, [], length, drop, roots_from, root_names}
 use Rattle.task_reader.proofs.root.roots_of.Given as goal
 
 abbrev pub invariant-items : goal.invariant-items

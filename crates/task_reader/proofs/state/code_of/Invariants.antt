@@ -1,6 +1,4 @@
-use Rattle.std.proofs.Common.{◌≡◌, ◌≤◌, ◌+◌, ◌++◌, drop}
-use Rattle.task_reader.specs.Program.{code_from}
-use Rattle.task_reader.specs.Fits.{steps_ahead}
+use Rattle.task_reader.proofs.Vocabulary.{◌≡◌, ◌≤◌, ◌+◌, ◌++◌, drop, code_from, steps_ahead}
 use Rattle.task_reader.proofs.state.code_of.Given as goal
 
 abbrev pub invariant-lines : goal.invariant-lines

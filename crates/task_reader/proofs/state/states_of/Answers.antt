@@ -1,6 +1,4 @@
-use Rattle.std.proofs.Common.{◌≡◌, ◌+◌, ◌++◌, drop, arith, sym, ap, ◌∙◌}
-use Rattle.task_reader.specs.Program.{states_from}
-use Rattle.task_reader.specs.Parts.{state_at}
+use Rattle.task_reader.proofs.Vocabulary.{◌≡◌, ◌+◌, ◌++◌, drop, arith, sym, ap, ◌∙◌, states_from, state_at}
 use Rattle.task_reader.proofs.WalkLemmas.{short-turn}
 use Rattle.task_reader.proofs.GatherLemmas.{gather-turn, gather-stop, gather-end, states-step, states-stop, states-none}
 use Rattle.task_reader.proofs.state.states_of.Goals as goal

@@ -1,6 +1,4 @@
-use Rattle.std.proofs.Common.{◌≡◌, ◌++◌, drop}
-use Rattle.task_reader.specs.Program.{states_from}
-use Rattle.task_reader.specs.Fits.{EachIsShort}
+use Rattle.task_reader.proofs.Vocabulary.{◌≡◌, ◌++◌, drop, states_from, EachIsShort}
 use Rattle.task_reader.proofs.state.states_of.Given as goal
 
 abbrev pub invariant-items : goal.invariant-items

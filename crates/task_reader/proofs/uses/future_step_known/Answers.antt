@@ -1,6 +1,4 @@
-use Rattle.std.proofs.Common.{◌∷◌, ◌∙◌, sym}
-use Rattle.task_reader.specs.Names.{known_among}
-use Rattle.task_reader.specs.Uses.{UsesFuture, UsesKind, passed_uses}
+use Rattle.task_reader.proofs.Vocabulary.{◌∷◌, ◌∙◌, sym, known_among, UsesFuture, UsesKind, passed_uses}
 use Rattle.task_reader.proofs.KnownLemmas.{behind-one, name-behind}
 use Rattle.task_reader.proofs.uses.future_step_known.Goals as goal
 

@@ -1,6 +1,4 @@
-use Rattle.std.proofs.Common.{[], ◌∷◌, ◌∙◌, sym}
-use Rattle.task_reader.specs.Names.{known_among}
-use Rattle.task_reader.specs.Uses.{Plain, UsesFuture, UsesState, UsesLabel, term_use, behind_uses}
+use Rattle.task_reader.proofs.Vocabulary.{[], ◌∷◌, ◌∙◌, sym, known_among, Plain, UsesFuture, UsesState, UsesLabel, term_use, behind_uses}
 use Rattle.task_reader.proofs.KnownLemmas.{behind-one, name-behind, name-last, plain-behind, term_known-is}
 use Rattle.task_reader.proofs.uses.going_step_known.Goals as goal
 

@@ -1,6 +1,4 @@
-use Rattle.std.proofs.Common.{◌∷◌, ◌∙◌, sym}
-use Rattle.task_reader.specs.Names.{known_among}
-use Rattle.task_reader.specs.Uses.{UsesKind, root_passed_uses}
+use Rattle.task_reader.proofs.Vocabulary.{◌∷◌, ◌∙◌, sym, known_among, UsesKind, root_passed_uses}
 use Rattle.task_reader.proofs.KnownLemmas.{behind-two, name-behind}
 use Rattle.task_reader.proofs.uses.root_known.Goals as goal
 

@@ -1,5 +1,4 @@
-use Rattle.std.proofs.Common.{◌++◌, ◌∙◌}
-use Rattle.task_reader.specs.Uses.{futures_uses}
+use Rattle.task_reader.proofs.Vocabulary.{◌++◌, ◌∙◌, futures_uses}
 use Rattle.task_reader.proofs.KnownLemmas.{behind-two}
 use Rattle.task_reader.proofs.uses.state_known.Goals as goal
 

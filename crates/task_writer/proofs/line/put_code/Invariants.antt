@@ -1,6 +1,4 @@
-use Rattle.std.proofs.Common.{◌≡◌, ◌++◌, take}
-use Rattle.task_writer.specs.Lines.{kind_names, names_in, code_lines}
-use Rattle.task_writer.specs.Text.{text_of_lines}
+use Rattle.task_writer.proofs.Vocabulary.{◌≡◌, ◌++◌, take, kind_names, names_in, code_lines, text_of_lines}
 use Rattle.task_writer.proofs.line.put_code.Given as goal
 
 abbrev pub invariant-loop-line : goal.invariant-loop-line

@@ -1,5 +1,4 @@
-use Rattle.task_writer.proofs.Vocabulary.{◌≡◌, ◌++◌, take, flat_map, text_of_lines}
-use Rattle.task_writer.specs.Lines.{kind_names, kind_lines}
+use Rattle.task_writer.proofs.Vocabulary.{◌≡◌, ◌++◌, take, flat_map, text_of_lines, kind_names, kind_lines}
 use Rattle.task_writer.proofs.line.put_kinds.Given as goal
 
 abbrev pub invariant-loop-kind : goal.invariant-loop-kind

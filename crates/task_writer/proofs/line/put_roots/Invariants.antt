@@ -1,6 +1,4 @@
-use Rattle.std.proofs.Common.{◌≡◌, ◌++◌, map, take}
-use Rattle.task_writer.specs.Lines.{kind_names, root_names, root_line}
-use Rattle.task_writer.specs.Text.{text_of_lines}
+use Rattle.task_writer.proofs.Vocabulary.{◌≡◌, ◌++◌, map, take, kind_names, root_names, root_line, text_of_lines}
 use Rattle.task_writer.proofs.line.put_roots.Given as goal
 
 abbrev pub invariant-loop-root : goal.invariant-loop-root

@@ -1,5 +1,4 @@
-use Rattle.task_writer.proofs.Vocabulary.{◌≡◌, ◌++◌, take, flat_map, text_of_lines}
-use Rattle.task_writer.specs.Lines.{kind_names, state_lines}
+use Rattle.task_writer.proofs.Vocabulary.{◌≡◌, ◌++◌, take, flat_map, text_of_lines, kind_names, state_lines}
 use Rattle.task_writer.proofs.line.put_states.Given as goal
 
 abbrev pub invariant-loop-state : goal.invariant-loop-state

@@ -1,7 +1,4 @@
-use Rattle.std.proofs.Common.{◌≡◌, ℕ, ◌++◌, map, take}
-use Rattle.task_writer.specs.Lines.{name_at, variable_names}
-use Rattle.task_lines.specs.Grammar.{future_word}
-use Rattle.task_writer.specs.Text.{spaced}
+use Rattle.task_writer.proofs.Vocabulary.{◌≡◌, ℕ, ◌++◌, map, take, name_at, variable_names, future_word, spaced}
 use Rattle.task_writer.proofs.list.put_futures.Given as goal
 
 abbrev pub invariant-loop-future : goal.invariant-loop-future

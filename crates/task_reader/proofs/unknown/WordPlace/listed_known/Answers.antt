@@ -1,5 +1,4 @@
-use Rattle.std.proofs.lemmas.Result.{err_from_is_err_and}
-use Rattle.task_reader.specs.Uses.{futures_uses}
+use Rattle.task_reader.proofs.Vocabulary.{err_from_is_err_and, futures_uses}
 use Rattle.task_reader.proofs.KnownLemmas.{fault-first, found-behind}
 use Rattle.task_reader.proofs.unknown.WordPlace.listed_known.Goals as goal
 
