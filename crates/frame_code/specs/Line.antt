@@ -51,6 +51,29 @@ FitsKind kind (All to members priority retry) = length members ≤ 8
 FitsKind kind (Done value) = IsFormedOperand kind value
 FitsKind kind _ = Unit {0}
 
+-- the instruction gives a number variable the value that it works out
+abbrev pub IsSet : Instr → Type 0
+IsSet (Set to value) = Unit {0}
+IsSet (Math op to left right) = Unit {0}
+IsSet (Cell to column row) = Unit {0}
+IsSet (Rows to column) = Unit {0}
+IsSet _ = ⊥
+
+-- the instruction calls other tasks
+abbrev pub Calls : Instr → Type 0
+Calls (Spawn to kind arguments waits priority retry) = Unit {0}
+Calls (All to members priority retry) = Unit {0}
+Calls _ = ⊥
+
+-- a task always stops at the instruction, which calls no other task
+abbrev pub StopsAlone : Instr → Type 0
+StopsAlone (Copy to source) = Unit {0}
+StopsAlone (Drop future) = Unit {0}
+StopsAlone (Get to future) = Unit {0}
+StopsAlone (Again target waits priority) = Unit {0}
+StopsAlone (Done value) = Unit {0}
+StopsAlone _ = ⊥
+
 -- a task always stops at the instruction
 abbrev pub AlwaysStops : Instr → Type 0
 AlwaysStops (Spawn to kind arguments waits priority retry) = Unit {0}

@@ -2,7 +2,7 @@ ghost use Rattle.std.specs.Prelude.{◌≡◌, ◌+◌, ◌<◌, slice_index};
 ghost use Rattle.task_syntax.specs.Places.{IsNumberAt};
 ghost use Rattle.task_syntax.specs.Form.{IsFormedOperand};
 ghost use Rattle.task_meaning.specs.Frame.{operand};
-ghost use Rattle.frame_code.specs.Line.{IsLaidOut, FitsKind, SetsNumber, IsPut, IsStep, numbers_of, operands_compare};
+ghost use Rattle.frame_code.specs.Line.{IsLaidOut, FitsKind, SetsNumber, IsSet, IsPut, IsStep, numbers_of, operands_compare};
 
 use crate::arithmetic::{compare, compute, number_or};
 use task_syntax::{Columns, Instr, Kind, MathOp, Operand, Relation, Trap, Value};
@@ -76,8 +76,8 @@ fn holds(
     )
 }
 
-/// Carries out the instruction at a line, unless the task always stops there.
-pub fn carry_out(
+/// Carries out the instruction that sets a number, at a line.
+fn set_line(
     kind: &Kind,
     instr: &Instr,
     columns: &Columns,
@@ -88,6 +88,7 @@ pub fn carry_out(
     requires laid_out { IsLaidOut kind.now places.now words.old }
     requires fits { FitsKind kind.now instr.now }
     requires near { at + 1 < 65536 }
+    requires sets { IsSet instr.now }
     ensures step { IsStep columns.now kind.now instr.now at words.old result words.new }
     ensures head { slice_index words.new 0 ≡ slice_index words.old 0 }
 {
@@ -106,6 +107,38 @@ pub fn carry_out(
             let right = read(kind, places, words, *right);
             put(kind, places, words, at, *to, compute(*op, left, right))
         }
+        Instr::Cell { to, column, row } => {
+            let row = read(kind, places, words, *row);
+            let cell = number_or(Trap::NoRow, columns.cell(column, row));
+            put(kind, places, words, at, *to, cell)
+        }
+        Instr::Rows { to, column } => {
+            let rows = columns.rows(column);
+            put(kind, places, words, at, *to, Value::Number(rows))
+        }
+        _ => unreachable!(),
+    }
+}
+
+/// Carries out the instruction at a line, unless the task always stops there.
+pub fn carry_out(
+    kind: &Kind,
+    instr: &Instr,
+    columns: &Columns,
+    places: &[u8],
+    words: &mut [u64],
+    at: u16,
+) -> Step
+    requires laid_out { IsLaidOut kind.now places.now words.old }
+    requires fits { FitsKind kind.now instr.now }
+    requires near { at + 1 < 65536 }
+    ensures step { IsStep columns.now kind.now instr.now at words.old result words.new }
+    ensures head { slice_index words.new 0 ≡ slice_index words.old 0 }
+{
+    match instr {
+        Instr::Set { .. } | Instr::Math { .. } | Instr::Cell { .. } | Instr::Rows { .. } => {
+            set_line(kind, instr, columns, places, words, at)
+        }
         Instr::If {
             relation,
             left,
@@ -120,15 +153,6 @@ pub fn carry_out(
         }
         Instr::Goto { target } => Step::Goes(*target),
         Instr::Label { .. } => Step::Goes(at + 1),
-        Instr::Cell { to, column, row } => {
-            let row = read(kind, places, words, *row);
-            let cell = number_or(Trap::NoRow, columns.cell(column, row));
-            put(kind, places, words, at, *to, cell)
-        }
-        Instr::Rows { to, column } => {
-            let rows = columns.rows(column);
-            put(kind, places, words, at, *to, Value::Number(rows))
-        }
         Instr::Spawn { .. }
         | Instr::All { .. }
         | Instr::Copy { .. }

@@ -2,7 +2,8 @@ ghost use Rattle.std.specs.Prelude.{◌≡◌, ◌≤◌, length};
 ghost use Rattle.task_syntax.specs.Places.{Each};
 ghost use Rattle.task_syntax.specs.Form.{IsFormedArgument};
 ghost use Rattle.frame_code.specs.Stops.{numbers_passed, variables_passed};
-ghost use Rattle.frame_code.specs.Line.{IsLaidOut, FitsKind, AlwaysStops, AsksFor, numbers_of};
+ghost use Rattle.frame_code.specs.Line.{IsLaidOut, FitsKind, Calls, StopsAlone, AlwaysStops, AsksFor, numbers_of};
+ghost use Rattle.frame_code.specs.declared.act.Requests.{Requests as RequestsOf};
 ghost use Rattle.frame_code.specs.Told.{act_told};
 
 use crate::act::{Asked, Requests, RespawnRequest};
@@ -55,8 +56,8 @@ fn pass_members(variables: &[u16], members: &mut Few<u16, 8>)
     }
 }
 
-/// Tells what a task asks for at an instruction where it always stops.
-pub fn request(
+/// Tells what a task asks for at an instruction that calls other tasks.
+fn request_call(
     kind: &Kind,
     instr: &Instr,
     places: &[u8],
@@ -65,7 +66,7 @@ pub fn request(
 ) -> Asked
     requires laid_out { IsLaidOut kind.now places.now words.now }
     requires fits { FitsKind kind.now instr.now }
-    requires stops { AlwaysStops instr.now }
+    requires calls { Calls instr.now }
     ensures { AsksFor kind.now instr.now words.now (act_told result requests.new) }
 {
     match instr {
@@ -101,6 +102,18 @@ pub fn request(
             all.retry = *retry;
             Asked::All
         }
+        _ => unreachable!(),
+    }
+}
+
+/// Tells what a task asks for at an instruction where it always stops, and calls no other task.
+fn request_alone(kind: &Kind, instr: &Instr, places: &[u8], words: &[u64]) -> Asked
+    requires laid_out { IsLaidOut kind.now places.now words.now }
+    requires fits { FitsKind kind.now instr.now }
+    requires stops { StopsAlone instr.now }
+    ensures { (requests : RequestsOf) → AsksFor kind.now instr.now words.now (act_told result requests) }
+{
+    match instr {
         Instr::Copy { to, of } => Asked::Copy { to: *to, of: *of },
         Instr::Drop { future } => Asked::Drop { future: *future },
         Instr::Get { future, .. } => Asked::NeedsValue { future: *future },
@@ -114,12 +127,32 @@ pub fn request(
             priority: *priority,
         }),
         Instr::Done { value } => Asked::Done(read(kind, places, words, *value)),
-        Instr::Set { .. }
-        | Instr::Math { .. }
-        | Instr::If { .. }
-        | Instr::Goto { .. }
-        | Instr::Label { .. }
-        | Instr::Cell { .. }
-        | Instr::Rows { .. } => unreachable!(),
+        _ => unreachable!(),
+    }
+}
+
+/// Tells what a task asks for at an instruction where it always stops.
+pub fn request(
+    kind: &Kind,
+    instr: &Instr,
+    places: &[u8],
+    words: &[u64],
+    requests: &mut Requests,
+) -> Asked
+    requires laid_out { IsLaidOut kind.now places.now words.now }
+    requires fits { FitsKind kind.now instr.now }
+    requires stops { AlwaysStops instr.now }
+    ensures { AsksFor kind.now instr.now words.now (act_told result requests.new) }
+{
+    match instr {
+        Instr::Spawn { .. } | Instr::All { .. } => {
+            request_call(kind, instr, places, words, requests)
+        }
+        Instr::Copy { .. }
+        | Instr::Drop { .. }
+        | Instr::Get { .. }
+        | Instr::Again { .. }
+        | Instr::Done { .. } => request_alone(kind, instr, places, words),
+        _ => unreachable!(),
     }
 }
