@@ -1,40 +1,20 @@
-ghost use Rattle.std.specs.Prelude.{◌≡◌, ◌≤◌, IfSome, length};
-
 use crate::hosting::host_program;
-use kt_words::{Geometry, Plan};
 use ready_queues::MutexReady;
+use sample_programs::{plan_of, program_of};
 use schedule_core::HostSpawned;
 use std::alloc::Global;
 use std::sync::Wait;
 use std::test::Fail;
-use task_check::check;
-use task_reader::read_program;
-use task_syntax::{Checked, Priority};
+use task_syntax::Priority;
 
 // A root without arguments, one that waits for it, one that is only passed it, and one of a larger
 // class.
-const PROGRAM: &str = "ktask 1\nkind one\nstate start\ndone 1\nend\nkind next @p\nvar x\n\
+const PROGRAM: &[u8] = b"ktask 1\nkind one\nstate start\ndone 1\nend\nkind next @p\nvar x\n\
     state start holds @p settled @p\nget x @p\ndone x\nend\nkind keeps @p n\n\
     state start holds @p\ndone n\nend\nkind wide\nvar a b c d e f g h\nstate start\n\
     done 2\nend\nroot first one high\nroot second next @first behind @first low\n\
     root third keeps @first 7\nroot fourth wide\n\
     root fifth next @fourth behind @fourth\n";
-
-fn program_of(alloc: Global, text: &str) -> Option<Checked> {
-    if text.len() > 10_000 {
-        return None;
-    }
-    let program = read_program(alloc, text.as_bytes()).ok()?;
-    check(alloc, program).ok()
-}
-
-fn plan_of(checked: &Checked, superblocks: u32, limit: u64) -> Option<Plan>
-    ensures { IfSome result (λ plan. plan.roots ≡ length checked.now.roots) }
-{
-    let geometry = Geometry::new(superblocks, 64)?;
-    let roots = u8::try_from(checked.program().roots.len()).ok()?;
-    Plan::new(geometry, limit, roots)
-}
 
 // What came of each root, over so many superblocks and with such a limit.
 fn answers(
@@ -42,11 +22,11 @@ fn answers(
     rt: &impl Wait,
     superblocks: u32,
     limit: u64,
-) -> Option<Vec<HostSpawned>> {
-    let checked = program_of(alloc, PROGRAM)?;
-    let plan = plan_of(&checked, superblocks, limit)?;
-    let (ready, _) = MutexReady::new(alloc, 16).ok()?;
-    host_program(alloc, rt, checked, plan, ready).ok()
+) -> Result<Vec<HostSpawned>, Fail> {
+    let checked = program_of(alloc, PROGRAM)?.ok_or("no program")?;
+    let plan = plan_of(&checked, superblocks, 64, limit).ok_or("no plan")?;
+    let (ready, _) = MutexReady::new(alloc, 16)?;
+    Ok(host_program(alloc, rt, checked, plan, ready)?)
 }
 
 // The number and the priority of an entry that was given.
@@ -59,7 +39,7 @@ fn entry_of(told: HostSpawned) -> Option<(u32, Priority)> {
 
 #[test]
 fn roots_are_named_and_wait_for_those_that_they_are_behind(rt: HostRuntime) -> Result<(), Fail> {
-    let told = answers(rt.alloc(), &rt, 4, 100).ok_or("no table")?;
+    let told = answers(rt.alloc(), &rt, 4, 100)?;
     assert_eq!(rt; told.len(), 5);
     assert_eq!(rt; entry_of(told[0]), Some((1, Priority::High)));
     assert_eq!(rt; told[1], HostSpawned::Named(None));
@@ -71,7 +51,7 @@ fn roots_are_named_and_wait_for_those_that_they_are_behind(rt: HostRuntime) -> R
 
 #[test]
 fn a_root_of_another_class_finds_no_room(rt: HostRuntime) -> Result<(), Fail> {
-    let told = answers(rt.alloc(), &rt, 1, 100).ok_or("no table")?;
+    let told = answers(rt.alloc(), &rt, 1, 100)?;
     assert_eq!(rt; told.len(), 5);
     assert_eq!(rt; told[3], HostSpawned::Null);
     assert_eq!(rt; told[4], HostSpawned::Skipped(3));
@@ -80,7 +60,7 @@ fn a_root_of_another_class_finds_no_room(rt: HostRuntime) -> Result<(), Fail> {
 
 #[test]
 fn past_the_limit_roots_are_over_and_skipped(rt: HostRuntime) -> Result<(), Fail> {
-    let told = answers(rt.alloc(), &rt, 4, 3).ok_or("no table")?;
+    let told = answers(rt.alloc(), &rt, 4, 3)?;
     assert_eq!(rt; told.len(), 5);
     assert_eq!(rt; entry_of(told[2]), Some((3, Priority::Regular)));
     assert_eq!(rt; told[3], HostSpawned::Over);

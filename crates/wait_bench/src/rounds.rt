@@ -79,7 +79,7 @@ fn round<R: Clock + AllocGlobal + Wait>(
 ) -> io::Result<Times>
     requires some { 0 < lists }
 {
-    let Some(opened) = open_hand(rt.alloc(), rt, lists, joins) else {
+    let Ok(opened) = open_hand(rt.alloc(), rt, lists, joins) else {
         return Err(io::Error::from(io::ErrorKind::Other));
     };
     let (shared, mut pass, mut hand) = opened;

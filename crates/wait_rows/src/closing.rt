@@ -91,7 +91,6 @@ fn close_between(
 #[test]
 fn last_joined_comes_first_and_a_late_one_is_told(rt: HostRuntime) -> Result<(), Fail> {
     let joins = [0u32; 3];
-    let opened = open_hand(rt.alloc(), &rt, 1, joins.as_slice());
-    let (shared, mut pass, mut hand) = opened.ok_or("no table")?;
+    let (shared, mut pass, mut hand) = open_hand(rt.alloc(), &rt, 1, joins.as_slice())?;
     close_between(&rt, &shared, &mut pass, &mut hand)
 }

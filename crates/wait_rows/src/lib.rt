@@ -7,6 +7,7 @@
 mod closing;
 mod hand;
 mod making;
+mod no_hand;
 mod opening;
 mod orders;
 #[cfg(test)]
@@ -14,6 +15,7 @@ mod random;
 mod stage;
 
 pub use hand::{Hand, close_one, finish_one, join_one, take_one};
+pub use no_hand::NoHand;
 pub use opening::open_hand;
 pub use orders::Orders;
 pub use stage::{Owner, Stage, Waiting};

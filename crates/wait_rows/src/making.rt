@@ -1,11 +1,12 @@
 //! Records that a maker makes for a hand.
-ghost use Rattle.std.specs.Prelude.{◌≡◌, ◌<◌, ◌+◌, ◌++◌, ◌∷◌, [], IfSome, OnOk, vec_len};
+ghost use Rattle.std.specs.Prelude.{◌≡◌, ◌<◌, ◌+◌, ◌++◌, ◌∷◌, [], IfOk, OnOk, vec_len};
 ghost use Rattle.step_table.specs.Passes.{view, plan, IsOf};
 ghost use Rattle.table_records.specs.Makers.{IsMaker};
 ghost use Rattle.wait_rows.specs.declared.stage.Stage.TheVariants as stage;
 ghost use Rattle.wait_rows.specs.Making.{Runs, IsOpenHand};
 
 use crate::hand::Hand;
+use crate::no_hand::NoHand;
 use crate::stage::{Owner, Stage, Waiting};
 use std::alloc::AllocError;
 use std::sync::Wait;
@@ -15,26 +16,28 @@ use table_records::{ready_record, waiting_record};
 // A pass with more references makes no more records.
 const MANY: u64 = 1_000_000;
 
-// Makes a record that runs. None: there is no room for it.
+// Makes a record that runs, where there is room for it.
 fn running_record(
     shared: &Shared,
     rt: &impl Wait,
     pass: &mut Pass,
     maker: &Started,
-) -> Option<(Started, Future)>
+) -> Result<(Started, Future), NoHand>
     requires table { IsOf shared.now pass.old }
     requires maker { IsMaker shared.now.setup maker.now (view pass.old) }
     ensures table { IsOf shared.now pass.new }
-    ensures run { IfSome result (λ t.
+    ensures run { IfOk result (λ t.
         Runs shared.now.setup t.0 t.1.unit (view pass.old) (view pass.new)) }
 {
     if pass.held() > MANY {
-        return None;
+        return Err(NoHand::Room);
     }
-    let (ready, future) = ready_record(shared, rt, pass, maker)?;
+    let Some((ready, future)) = ready_record(shared, rt, pass, maker) else {
+        return Err(NoHand::Room);
+    };
     match shared.take_ready(pass, future.unit(), ready) {
-        Ok(started) => Some((started, future)),
-        Err(_) => None,
+        Ok(started) => Ok((started, future)),
+        Err(_) => Err(NoHand::Room),
     }
 }
 
@@ -62,34 +65,34 @@ fn put_waiting(hand: &mut Hand, waiting: Waiting) -> Result<(), AllocError>
     Ok(())
 }
 
-/// Makes a record that runs, with an open list, the last of the hand. None: memory, blocks or
-/// numbers are short.
+/// Makes a record that runs, with an open list, the last of the hand. No room: blocks or numbers
+/// are short.
 pub fn add_list(
     shared: &Shared,
     rt: &impl Wait,
     pass: &mut Pass,
     maker: &Started,
     hand: &mut Hand,
-) -> Option<()>
+) -> Result<(), NoHand>
     requires table { IsOf shared.now pass.old }
     requires maker { IsMaker shared.now.setup maker.now (view pass.old) }
     requires hand { IsOpenHand (plan shared.now) hand.old (view pass.old) }
     ensures table { IsOf shared.now pass.new }
-    ensures maker { IfSome result (λ _. IsMaker shared.now.setup maker.now (view pass.new)) }
-    ensures hand { IfSome result (λ _. IsOpenHand (plan shared.now) hand.new (view pass.new)) }
-    ensures count { IfSome result (λ _.
+    ensures maker { IfOk result (λ _. IsMaker shared.now.setup maker.now (view pass.new)) }
+    ensures hand { IfOk result (λ _. IsOpenHand (plan shared.now) hand.new (view pass.new)) }
+    ensures count { IfOk result (λ _.
         vec_len hand.new.stages ≡ vec_len hand.old.stages + 1) }
 {
     let (started, future) = running_record(shared, rt, pass, maker)?;
     let task = started.number();
     let owner = Owner { future, task };
     match put_list(hand, owner, started) {
-        Ok(()) => Some(()),
-        Err(_) => None,
+        Ok(()) => Ok(()),
+        Err(error) => Err(NoHand::from(error)),
     }
 }
 
-/// Makes a record that waits behind the task of the record with this list. None: as for a list.
+/// Makes a record that waits behind the task of the record with this list. No room: as for a list.
 pub fn add_waiting(
     shared: &Shared,
     rt: &impl Wait,
@@ -97,25 +100,27 @@ pub fn add_waiting(
     maker: &Started,
     hand: &mut Hand,
     list: u32,
-) -> Option<()>
+) -> Result<(), NoHand>
     requires table { IsOf shared.now pass.old }
     requires maker { IsMaker shared.now.setup maker.now (view pass.old) }
     requires hand { IsOpenHand (plan shared.now) hand.old (view pass.old) }
     requires list { list < vec_len hand.old.stages }
     ensures table { IsOf shared.now pass.new }
-    ensures maker { IfSome result (λ _. IsMaker shared.now.setup maker.now (view pass.new)) }
-    ensures hand { IfSome result (λ _. IsOpenHand (plan shared.now) hand.new (view pass.new)) }
+    ensures maker { IfOk result (λ _. IsMaker shared.now.setup maker.now (view pass.new)) }
+    ensures hand { IfOk result (λ _. IsOpenHand (plan shared.now) hand.new (view pass.new)) }
     ensures count { vec_len hand.new.stages ≡ vec_len hand.old.stages }
 {
     if pass.held() > MANY {
-        return None;
+        return Err(NoHand::Room);
     }
     let owner = &hand.owners[list as usize];
     let task = owner.task;
-    let (waiter, _future) = waiting_record(shared, rt, pass, maker, task)?;
+    let Some((waiter, _future)) = waiting_record(shared, rt, pass, maker, task) else {
+        return Err(NoHand::Room);
+    };
     let waiting = Waiting { waiter, list };
     match put_waiting(hand, waiting) {
-        Ok(()) => Some(()),
-        Err(_) => None,
+        Ok(()) => Ok(()),
+        Err(error) => Err(NoHand::from(error)),
     }
 }

@@ -1,5 +1,5 @@
 //! Tables with records, and the hand of their pass.
-ghost use Rattle.std.specs.Prelude.{◌≡◌, ◌+◌, IfSome, length, vec_len};
+ghost use Rattle.std.specs.Prelude.{◌≡◌, ◌+◌, IfOk, vec_len};
 ghost use Rattle.step_table.specs.Passes.{view, plan, IsOf};
 ghost use Rattle.table_records.specs.Makers.{IsMaker};
 ghost use Rattle.wait_rows.specs.Hands.{IsHand};
@@ -7,47 +7,28 @@ ghost use Rattle.wait_rows.specs.Making.{IsOpenHand};
 
 use crate::hand::Hand;
 use crate::making::{add_list, add_waiting};
-use kt_words::{Geometry, Plan};
+use crate::no_hand::NoHand;
+use sample_programs::{plan_of, program_of};
 use std::alloc::Global;
 use std::sync::Wait;
 use step_table::{Pass, Shared, Started};
 use table_records::open_maker;
-use task_check::check;
-use task_reader::read_program;
-use task_syntax::Checked;
 
 // A root of a kind with one state.
-const PROGRAM: &str = "ktask 1\nkind one\nstate start\ndone 1\nend\nroot p one\n";
+const PROGRAM: &[u8] = b"ktask 1\nkind one\nstate start\ndone 1\nend\nroot p one\n";
 
 // More activations than a table has records.
 const LIMIT: u64 = 2000;
 
-// The program of a text, where it has one that is valid.
-fn program_of(alloc: Global, text: &str) -> Option<Checked> {
-    if text.len() > 10_000 {
-        return None;
-    }
-    let program = read_program(alloc, text.as_bytes()).ok()?;
-    check(alloc, program).ok()
-}
-
-// The plan of a program's run, over two superblocks of 512 units.
-fn plan_of(checked: &Checked) -> Option<Plan>
-    ensures { IfSome result (λ plan. plan.roots ≡ length checked.now.roots) }
+// A table with a record that makes others, over two superblocks of 512 units.
+fn open_table(alloc: Global, rt: &impl Wait) -> Result<(Shared, Pass, Started), NoHand>
+    ensures table { IfOk result (λ made. IsOf made.0 made.1) }
+    ensures maker { IfOk result (λ made. IsMaker made.0.setup made.2 (view made.1)) }
 {
-    let geometry = Geometry::new(2, 512)?;
-    let roots = u8::try_from(checked.program().roots.len()).ok()?;
-    Plan::new(geometry, LIMIT, roots)
-}
-
-// A table with a record that makes others.
-fn open_table(alloc: Global, rt: &impl Wait) -> Option<(Shared, Pass, Started)>
-    ensures table { IfSome result (λ made. IsOf made.0 made.1) }
-    ensures maker { IfSome result (λ made. IsMaker made.0.setup made.2 (view made.1)) }
-{
-    let checked = program_of(alloc, PROGRAM)?;
-    let plan = plan_of(&checked)?;
-    open_maker(alloc, rt, checked, plan).ok()?
+    let checked = program_of(alloc, PROGRAM)?.ok_or(NoHand::Room)?;
+    let plan = plan_of(&checked, 2, 512, LIMIT).ok_or(NoHand::Room)?;
+    let made = open_maker(alloc, rt, checked, plan)?.ok_or(NoHand::Room)?;
+    Ok(made)
 }
 
 // A hand with nothing.
@@ -73,23 +54,23 @@ fn add_lists(
     maker: &Started,
     hand: &mut Hand,
     lists: u32,
-) -> Option<()>
+) -> Result<(), NoHand>
     requires table { IsOf shared.now pass.old }
     requires maker { IsMaker shared.now.setup maker.now (view pass.old) }
     requires hand { IsOpenHand (plan shared.now) hand.old (view pass.old) }
     requires none { vec_len hand.old.stages ≡ 0 }
     ensures table { IsOf shared.now pass.new }
-    ensures maker { IfSome result (λ _. IsMaker shared.now.setup maker.now (view pass.new)) }
-    ensures hand { IfSome result (λ _. IsOpenHand (plan shared.now) hand.new (view pass.new)) }
-    ensures count { IfSome result (λ _. vec_len hand.new.stages ≡ lists) }
+    ensures maker { IfOk result (λ _. IsMaker shared.now.setup maker.now (view pass.new)) }
+    ensures hand { IfOk result (λ _. IsOpenHand (plan shared.now) hand.new (view pass.new)) }
+    ensures count { IfOk result (λ _. vec_len hand.new.stages ≡ lists) }
 {
     for list in 0..lists {
         add_list(shared, rt, pass, maker, hand)?;
     }
-    Some(())
+    Ok(())
 }
 
-// One record for each of these lists, which is to join it. None: there is no such list, too.
+// One record for each of these lists, which is to join it. No room: there is no such list, too.
 fn add_all(
     shared: &Shared,
     rt: &impl Wait,
@@ -97,39 +78,39 @@ fn add_all(
     maker: &Started,
     hand: &mut Hand,
     joins: &[u32],
-) -> Option<()>
+) -> Result<(), NoHand>
     requires table { IsOf shared.now pass.old }
     requires maker { IsMaker shared.now.setup maker.now (view pass.old) }
     requires hand { IsOpenHand (plan shared.now) hand.old (view pass.old) }
     ensures table { IsOf shared.now pass.new }
-    ensures hand { IfSome result (λ _. IsOpenHand (plan shared.now) hand.new (view pass.new)) }
+    ensures hand { IfOk result (λ _. IsOpenHand (plan shared.now) hand.new (view pass.new)) }
     ensures count { vec_len hand.new.stages ≡ vec_len hand.old.stages }
 {
     for at in 0..joins.len() {
         let list = joins[at];
         if list as usize >= hand.stages.len() {
-            return None;
+            return Err(NoHand::Room);
         }
         add_waiting(shared, rt, pass, maker, hand, list)?;
     }
-    Some(())
+    Ok(())
 }
 
 /// A table with so many records that run, and for each of `joins` one that waits behind the task of
-/// the record with this list. None: memory, blocks or numbers are short, or there is no such list.
+/// the record with this list. No room: blocks or numbers are short, or there is no such list.
 pub fn open_hand(
     alloc: Global,
     rt: &impl Wait,
     lists: u32,
     joins: &[u32],
-) -> Option<(Shared, Pass, Hand)>
-    ensures table { IfSome result (λ made. IsOf made.0 made.1) }
-    ensures hand { IfSome result (λ made. IsHand (plan made.0) made.2 (view made.1)) }
-    ensures count { IfSome result (λ made. vec_len made.2.stages ≡ lists) }
+) -> Result<(Shared, Pass, Hand), NoHand>
+    ensures table { IfOk result (λ made. IsOf made.0 made.1) }
+    ensures hand { IfOk result (λ made. IsHand (plan made.0) made.2 (view made.1)) }
+    ensures count { IfOk result (λ made. vec_len made.2.stages ≡ lists) }
 {
     let (shared, mut pass, maker) = open_table(alloc, rt)?;
     let mut hand = empty_hand(alloc, &shared, &pass);
     add_lists(&shared, rt, &mut pass, &maker, &mut hand, lists)?;
     add_all(&shared, rt, &mut pass, &maker, &mut hand, joins)?;
-    Some((shared, pass, hand))
+    Ok((shared, pass, hand))
 }

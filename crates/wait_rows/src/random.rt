@@ -234,8 +234,7 @@ fn round<R: Abort + Wait>(
     count: (u32, u32),
 ) -> Result<(), Fail> {
     let joins = joins_of(alloc, random)?;
-    let opened = open_hand(alloc, rt, RUNNING, joins.as_slice());
-    let (shared, mut pass, mut hand) = opened.ok_or("no table")?;
+    let (shared, mut pass, mut hand) = open_hand(alloc, rt, RUNNING, joins.as_slice())?;
     play(rt, alloc, &shared, &mut pass, &mut hand, random, count)
 }
 

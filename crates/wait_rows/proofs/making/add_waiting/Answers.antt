@@ -19,12 +19,12 @@ returns-in-Ok-clause-hand g c =
     let setup = c.args.shared.now.setup in let hand = c.args.hand.now in let w = view c.waiting_record.new.pass in let lists = c.requires.hand.is_hand.lists in
     let low : c.args.list < length hand.owners.items = omega (arith, c.requires.list, hand.stages.ok, lists.count) in
     let at = at-index hand.owners.items c.args.list c.index-owner.result.now low c.index-owner.ensures in
-    let waiting : Waiting = record { waiter = c.in_ok-waiter.waiter; list = c.args.list } in
-    let made = c.in_ok-waiter.ensures.record in
+    let waiting : Waiting = record { waiter = c.in-Some.waiter; list = c.args.list } in
+    let made = c.in-Some.ensures.record in
     let put = c.in-Ok.ensures in record {
       is_hand = hand-moved setup.plan w (hand.waiting.items ++ waiting ∷ []) c.put_waiting.new.hand.waiting.items hand.back.items c.put_waiting.new.hand.back.items hand.owners.items c.put_waiting.new.hand.owners.items
           hand.stages.items c.put_waiting.new.hand.stages.items put.waiting (ap (λ v. v.items) put.back) (ap (λ v. v.items) put.same.0) (ap (λ v. v.items) put.same.1)
           (hand-waits setup hand.waiting.items hand.back.items hand.owners.items hand.stages.items (view c.args.pass.now) w c.requires.hand.is_hand waiting c.index-owner.result.now made.0 at made.1
-          c.in_ok-waiter.ensures.sound);
+          c.in-Some.ensures.sound);
       all_run = subst AllRun (sym (ap (λ v. v.items) put.same.1)) c.requires.hand.all_run;
     }

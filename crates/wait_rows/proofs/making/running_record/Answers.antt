@@ -6,6 +6,6 @@ use Rattle.wait_rows.proofs.MakingFacts.{runs-made}
 
 pub returns-in-Ok-clause-run : goal.returns-in-Ok-clause-run
 returns-in-Ok-clause-run g c =
-    let setup = c.args.shared.now.setup in let ready = c.in_ok-ready.ready in let old = c.ready_record.new.pass in let new = c.take_ready.new.pass in
+    let setup = c.args.shared.now.setup in let ready = c.in-Some.ready in let old = c.ready_record.new.pass in let new = c.take_ready.new.pass in
     let taken = subst (λ (u : ℕ). TakesRecord setup u ready old c.in-Ok.started new) c.unit.ensures c.in-Ok.ensures.taken in
-    runs-made setup c.in_ok-ready.future.unit ready (view c.args.pass.now) old new c.in-Ok.started c.in_ok-ready.ensures.record taken c.in-Ok.ensures.sound.after
+    runs-made setup c.in-Some.future.unit ready (view c.args.pass.now) old new c.in-Ok.started c.in-Some.ensures.record taken c.in-Ok.ensures.sound.after
