@@ -5,10 +5,10 @@ use Rattle.std.proofs.lemmas.List.{length-replicate}
 use Rattle.pool_core.specs.Pool.{PoolState, unused_pool}
 use Rattle.run_model.specs.State.{no_queues}
 use Rattle.plain_state.specs.declared.record.Record.{Record}
-use Rattle.plain_state.specs.Store.{no_record, IsShaped}
+use Rattle.plain_state.specs.Store.{no_record}
 use Rattle.plain_records.specs.Ready.{ReadyState}
-use Rattle.plain_records.specs.StoreView.{AreRecords, blocks_of, store_of, unit_words}
-use Rattle.plain_records.proofs.Blocks.{blocks_length, blocks_set, blocks_none}
+use Rattle.plain_records.specs.StoreView.{AreRecords, blocks_of, unit_words}
+use Rattle.plain_records.proofs.Blocks.{blocks_length}
 use Rattle.plain_records.proofs.Behind.{none_written}
 
 -- a member that is replaced leaves as many

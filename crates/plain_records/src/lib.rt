@@ -4,6 +4,7 @@
 //! `plain_state` says what the records are seen as and what each call does to them.
 #![tactic(auto)]
 
+mod ahead;
 mod frames;
 mod queues;
 mod ready;

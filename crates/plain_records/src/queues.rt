@@ -33,7 +33,15 @@ impl Records {
     pub fn next_ready(&mut self) -> Option<u32>
         ensures { IsTaken self.old result self.new }
     {
+        self.read_ahead();
         self.ready.pop()
+    }
+
+    // Where it is time to, reads the records and frames of the next tasks ahead.
+    fn read_ahead(&mut self)
+        ensures { self.new ≡ self.old }
+    {
+        self.ahead = self.ahead.next(self.records.as_slice(), self.words.as_slice(), &self.ready);
     }
 
     /// A task joins the waiters of another.

@@ -1,4 +1,4 @@
-ghost use Rattle.std.specs.Prelude.{◌≡◌, ◌+◌, ◌≤◌, IfOk};
+ghost use Rattle.std.specs.Prelude.{◌≡◌, ◌+◌, ◌≤◌, IfOk, slice_get};
 ghost use Rattle.run_model.specs.State.{no_queues, queued};
 ghost use Rattle.plain_state.specs.Store.{queued_count};
 ghost use Rattle.plain_records.specs.Ready.{Takes, with_queues};
@@ -63,5 +63,15 @@ impl Ready {
             return Some(unit);
         }
         self.low.pop_front()
+    }
+
+    /// The unit at a place of the queue of regular priority, if there is one.
+    pub fn regular_at(&self, place: usize) -> Option<u32>
+        ensures { result ≡ slice_get self.now.queues.regular place }
+    {
+        match self.regular.get(place) {
+            Some(unit) => Some(*unit),
+            None => None,
+        }
     }
 }

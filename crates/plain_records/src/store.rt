@@ -3,6 +3,7 @@ ghost use Rattle.run_model.specs.Placing.{words_of};
 ghost use Rattle.plain_state.specs.Store.{HasUnit, no_record, out_of_class, unused_store};
 ghost use Rattle.plain_records.specs.Allocated.{out_before};
 
+use crate::ahead::Ahead;
 use crate::ready::Ready;
 use crate::slot::Slot;
 use kt_words::{Geometry, SuperWord};
@@ -23,6 +24,7 @@ pub struct Records {
     pub(crate) records: Vec<Slot>,
     pub(crate) words: Vec<u64>,
     pub(crate) ready: Ready,
+    pub(crate) ahead: Ahead,
 }
 
 impl Model for Records {
@@ -83,6 +85,7 @@ impl Records {
             records,
             words,
             ready,
+            ahead: Ahead::none(),
         })
     }
 

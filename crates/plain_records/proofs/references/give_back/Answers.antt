@@ -1,4 +1,4 @@
-use Rattle.std.proofs.Common.{None, sym, ◌∙◌, arith}
+use Rattle.std.proofs.Common.{None, ◌∙◌, arith}
 use Rattle.plain_records.proofs.Blocks.{blocks_length, blocks_set, kept_out, kept_without}
 use Rattle.plain_records.proofs.references.give_back.Goals as goal
 
