@@ -15,7 +15,7 @@ use Rattle.table_core.specs.declared.view.View.{View}
 use Rattle.schedule_rule.proofs.HeldNameFacts.{lines-hold}
 use Rattle.schedule_core.specs.Bags.{IsSpare}
 use Rattle.schedule_core.specs.Moves.{Asks, RunsOn}
-use Rattle.schedule_core.specs.Runs.{IsInStep, IsSameKind}
+use Rattle.schedule_core.specs.Runs.{IsInStep, IsSameState}
 use Rattle.schedule_core.specs.declared.running.Running.{Running}
 use Rattle.schedule_core.proofs.MovedTasks.{in-step-at}
 
@@ -27,7 +27,7 @@ asks-there p c (OfKind q) (OfMembers same at) asked goes = absurd goes
 asks-there p c (OfMembers units next) (OfKind last) asked goes = absurd goes
 
 -- it is of the kind that it was
-kind-stays : (p : Program) (c : Columns) (b last a : BodyOf ℕ) (asked : Act) → BodyAdvances p c b asked last → IsSameKind a b → IsSameKind a last
+kind-stays : (p : Program) (c : Columns) (b last a : BodyOf ℕ) (asked : Act) → BodyAdvances p c b asked last → IsSameState a b → IsSameState a last
 kind-stays p c (OfKind q) (OfKind last) (OfKind first) asked goes same = let kept = goes-keeps p c q last goes.0 in (kept.kind ∙ same.0, kept.state ∙ same.1)
 kind-stays p c (OfMembers units next) (OfMembers same at) (OfMembers first begun) asked goes is = (goes.0 ∙ is.0, goes.1 ∙ is.1)
 kind-stays p c (OfKind q) (OfMembers same at) a asked goes is = absurd goes

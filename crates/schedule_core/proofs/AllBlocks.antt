@@ -7,7 +7,7 @@ use Rattle.record_core.specs.Counting.{At, Has}
 use Rattle.task_syntax.specs.Form.{IsWellFormed}
 use Rattle.task_syntax.specs.Valid.{IsValid}
 use Rattle.task_syntax.specs.declared.program.Program.{Program}
-use Rattle.task_meaning.specs.Worths.{Accepted}
+use Rattle.task_meaning.specs.Worths.{Accepted, OfAll}
 use Rattle.ready_queues.specs.declared.entry.Entry.{Entry}
 use Rattle.frame_code.specs.Entries.{IsFrameOfMembers}
 use Rattle.frame_code.specs.Setting.{unit_of}
@@ -16,23 +16,17 @@ use Rattle.frame_code.specs.Words.{BodyOf, body_of}
 use Rattle.frame_code.specs.declared.act.AllRequest.{AllRequest}
 use Rattle.table_core.specs.Addresses.{units_of}
 use Rattle.table_core.specs.Lists.{Each}
-use Rattle.table_core.specs.Pool.{superblock_of}
-use Rattle.table_core.specs.Views.{place}
-use Rattle.table_core.specs.WaitViews.{is_run_at}
 use Rattle.table_core.specs.declared.setup.Setup.{Setup}
 use Rattle.table_core.specs.declared.view.View.{View}
 use Rattle.table_core.proofs.ListFacts.{map_at, at_map}
 use Rattle.schedule_rule.specs.Calls.{after_in, first_in}
-use Rattle.schedule_rule.specs.DrawViews.{changed}
 use Rattle.schedule_rule.specs.Frames.{HoldsNames}
-use Rattle.schedule_rule.specs.LifeViews.{with_words}
 use Rattle.schedule_rule.specs.PlacingViews.{WereSeenAs}
 use Rattle.memory_pool.specs.Answers.{Refuses}
 use Rattle.step_table.specs.declared.record_tokens.Future.{Future}
 use Rattle.schedule_core.specs.Begins.{MetLimit}
-use Rattle.schedule_core.specs.Making.{Enters, WaitsOpen, task_behind}
-use Rattle.schedule_core.specs.NewTasks.{Makes, Wants, HasMade, asking_of, group_class}
-use Rattle.schedule_core.specs.PastFrames.{past_words}
+use Rattle.schedule_core.specs.Making.{task_behind}
+use Rattle.schedule_core.specs.NewTasks.{GetsTask, Makes, Wants, HasMade, asking_of, group_class}
 use Rattle.schedule_core.specs.SeenTasks.{unit_behind}
 use Rattle.schedule_core.specs.SpawningAll.{MaySpawnAll, SpawnsAll, HasSpawnedAll, units_all}
 use Rattle.schedule_core.specs.declared.answers.Spawned.{Spawned}
@@ -48,7 +42,7 @@ use Rattle.schedule_core.proofs.SpawnSights.{variable-named, named-near}
 
 -- what is made for the request, by the units of its members and the first of them
 abbrev pub group_for : AllRequest → List ℕ → ℕ → NewTask → NewTask
-group_for request units first new = record new { given = given.Members units; behind = Some first; to = request.to }
+group_for request units first new = record new { given = given.Members units; behind = Some first; to = request.to; priority = request.priority }
 
 module _ (g : Setup) (x : Running) (request : AllRequest) (v : View) (q : Program) (units : List ℕ) (may : MaySpawnAll g x request v) (same : q ≡ g.checked) (formed : IsWellFormed q) (valid : IsValid q)
     (are : units ≡ units_in (body_of q x.frame.items) request.members) where
@@ -109,37 +103,20 @@ module _ (g : Setup) (x : Running) (request : AllRequest) (v : View) (q : Progra
 
     -- and once it is made, the request is met
     spawned-all : (future : Future) (entry : Option Entry) (after : View) → HasMade g x (group_for request units first new) v future entry after → HasSpawnedAll g x request v future entry after
-    spawned-all future entry after m = by m.behind m.behind_is m.after_is m.enters m.stays_open
+    spawned-all future entry after m = by m.behind m.behind_is m.after_is m.gets
       where
-        by : (o : Option Behind) → unit_behind o ≡ Some first → task_behind o ≡ after_in (Some m.call) → Enters future.unit m.number o entry m.steps → WaitsOpen future.unit o entry m.steps → HasSpawnedAll g x request v future entry after
-        by None none after_is enters stays = absurd (none-some first none)
-        by (Some b) some after_is enters stays = record {
+        by : (o : Option Behind) → unit_behind o ≡ Some first → task_behind o ≡ after_in (Some m.call)
+            → GetsTask g x request.to (group_class (length units)) request.priority m.number m.call o v future entry after → HasSpawnedAll g x request v future entry after
+        by None none after_is gets = absurd (none-some first none)
+        by (Some b) some after_is gets = record {
           number = m.number;
-          within = m.within;
           members = m.call_is.0;
           were_seen = subst (λ (l : List (Option ℕ)). WereSeenAs after l (map Some m.call_is.0)) units-all m.call_is.1;
           behind = b;
           first_is = ap (λ (l : List (Option ℕ)). slice_get l 0) (sym units-all) ∙ at_map Some units 0 first there ∙ ap (λ (u : ℕ). Some (Some u)) (sym (same_Some b.unit first some));
           waits_for = first-there m.call_is.0 b.task (sym (after_is ∙ ap (λ (a : Accepted). after_in (Some a)) m.call_is.2));
-          steps = m.steps;
-          since = m.since;
-          enters = enters;
-          stays_open = stays;
-          sees = m.sees;
-          facts = m.facts;
-          view_is = m.view_is ∙ (λ k. record v {
-            futures = future.unit ∷ v.futures;
-            runs = changed (is_run_at x.started.unit) (with_words (past_words g.checked x.frame.items request.to future.unit)) v.runs;
-            calls = (m.number, m.call_is.2 k) ∷ v.calls;
-            wins = place (superblock_of g.plan future.unit) (group_class (units-long k)) ∷ v.wins;
-            may_draw = 0;
-            looks = after.looks;
-            known = after.known;
-            sights = after.sights;
-            facts = after.facts;
-            tries = after.tries;
-            seen = after.seen;
-          });
+          gets = subst (λ (n : ℕ). GetsTask g x request.to (group_class n) request.priority m.number (OfAll m.call_is.0) (Some b) v future entry after) units-long
+              (subst (λ (a : Accepted). GetsTask g x request.to (group_class (length units)) request.priority m.number a (Some b) v future entry after) m.call_is.2 gets);
         }
 
     pub made-all : (told : Spawned) (after : View) → Makes g x (group_for request units first new) v told after → SpawnsAll g x request v told after

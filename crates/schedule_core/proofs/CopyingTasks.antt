@@ -40,7 +40,7 @@ use Rattle.step_table.specs.RecordSteps.{Refers}
 use Rattle.step_table.specs.declared.pass.Pass.{Pass}
 use Rattle.step_table.specs.declared.record_tokens.Future.{Future}
 use Rattle.schedule_core.specs.Bags.{IsSpare}
-use Rattle.schedule_core.specs.Moves.{SeesFrame, TakesNamed, MayCopy, MayName, GoesPast, Names, Copies, looking, unit_at, set_past}
+use Rattle.schedule_core.specs.Moves.{SeesFrame, TakesNamed, MayCopy, MayPut, GoesPast, Puts, Copies, looking, unit_at, set_past}
 use Rattle.schedule_core.specs.References.{Grows}
 use Rattle.schedule_core.specs.Runs.{IsInStep}
 use Rattle.schedule_core.specs.Spawning.{AsksFor}
@@ -151,14 +151,14 @@ module _ (g : Setup) (x : Running) (to source unit : ℕ) (v : View) (may : MayC
     }
 
 -- then one variable names the task that another names
-pub may-name_source : (g : Setup) (x : Running) (to source unit : ℕ) (old mid : View) → MayCopy g x to source old → TakesNamed g x unit old mid → MayName g x to unit mid
-may-name_source g x to source unit old mid may takes = record {
+pub may-put_source : (g : Setup) (x : Running) (to source unit : ℕ) (old mid : View) → MayCopy g x to source old → TakesNamed g x unit old mid → MayPut g x to unit mid
+may-put_source g x to source unit old mid may takes = record {
   in_step = takes.in_step;
   puts = stands-copying g.checked g.columns to source (body_of g.checked x.frame.items) may.asks;
   spare = takes.spare;
 }
 
-pub copies : (g : Setup) (x y : Running) (to source unit : ℕ) (old mid new : View) → unit_in g.checked x.frame.items source ≡ Some unit → TakesNamed g x unit old mid → Names g x to unit mid y new → Copies g x to source old y new
+pub copies : (g : Setup) (x y : Running) (to source unit : ℕ) (old mid new : View) → unit_in g.checked x.frame.items source ≡ Some unit → TakesNamed g x unit old mid → Puts g x to unit mid y new → Copies g x to source old y new
 copies g x y to source unit old mid new is takes named = subst (λ (o : Option ℕ). GoesPast g x (set_past g x to o) (option_to_list o) (option_to_list o) (unit_at g x to) old y new) (sym is) (record {
   moved = named.moved;
   body_is = named.body_is;

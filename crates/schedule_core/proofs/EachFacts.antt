@@ -1,21 +1,22 @@
 -- References that are taken, or given up, one after the other.
-use Rattle.std.proofs.Common.{◌≡◌, ◌≢◌, ◌∙◌, ◌⊎◌, inl, inr, ℕ, zero, suc, ◌+◌, ◌-◌, ◌<◌, ◌==◌, Option, Some, None, List, [], ◌∷◌, ◌++◌, drop, length, refl, sym, ap, subst, append_assoc, arith}
+use Rattle.std.proofs.Common.{◌≡◌, ◌≢◌, ◌∙◌, ◌⊎◌, inl, inr, ℕ, zero, suc, ◌+◌, ◌-◌, ◌<◌, ◌==◌, ◌/◌, Option, Some, None, List, [], ◌∷◌, ◌++◌, drop, length, refl, sym, ap, subst, append_assoc, arith}
 use Rattle.std.specs.Option.{option_to_list}
 use Rattle.std.specs.List.{filter_map, cons_option}
 use Rattle.std.specs.Prelude.{slice_get, slice_index}
 use Rattle.frame_code.specs.Words.{unit_named}
 use Rattle.future_refs.specs.Drops.{Drops, GivesBack}
 use Rattle.table_core.proofs.BagFacts.{one-here}
+use Rattle.table_core.proofs.ListFacts.{same_some}
 use Rattle.step_table.specs.RecordSteps.{Refers}
 use Rattle.step_table.specs.declared.record_tokens.Future.{Future}
 use Rattle.std.proofs.lemmas.Bool.{cases_eq}
 use Rattle.std.proofs.lemmas.List.{length-append}
-use Rattle.record_core.specs.Counting.{times, one_if, dropped}
+use Rattle.record_core.specs.Counting.{Has, times, one_if, dropped}
 use Rattle.record_core.proofs.TotalFacts.{none_there, total-append}
 use Rattle.kt_words.specs.declared.plan.Plan.{Plan}
-use Rattle.table_core.specs.Addresses.{refs, units_of}
+use Rattle.table_core.specs.Addresses.{Addr, super, bits, state, refs, head, units_of}
 use Rattle.table_core.specs.Lists.{Each}
-use Rattle.table_core.specs.Pool.{superblock_of}
+use Rattle.table_core.specs.Pool.{superblock_of, bit_of}
 use Rattle.table_core.specs.Views.{place}
 use Rattle.table_core.specs.RecordViews.{is_at}
 use Rattle.table_core.specs.declared.setup.Setup.{Setup}
@@ -27,13 +28,39 @@ use Rattle.schedule_rule.proofs.PlacingFacts.{times-less}
 use Rattle.step_table.specs.Passes.{view, IsSameWith}
 use Rattle.step_table.specs.RecordHands.{HasFuture, MayLessen}
 use Rattle.step_table.specs.declared.pass.Pass.{Pass}
-use Rattle.schedule_core.specs.References.{Grows, HasEach, TakesEach, MayDropEach, DropsEach}
+use Rattle.schedule_core.specs.References.{Grows, HasEach, NoHeads, TakesEach, MayDropEach, DropsEach}
+
+-- what two lists together have, one of them has
+pub has-either : {A : Type 0} (x : A) (l more : List A) → Has x (l ++ more) → Has x l ⊎ Has x more
+has-either x [] more has = inr has
+has-either x (y ∷ l) more (zero, at) = inl (0, at)
+has-either x (y ∷ l) more (suc k, at) = by (has-either x l more (k, at))
+  where
+    by : Has x l ⊎ Has x more → Has x (y ∷ l) ⊎ Has x more
+    by (inl t) = inl (suc t.0, t.1)
+    by (inr t) = inr t
+
+-- no step is on the head of a list, in none and in two lists of such steps
+pub no-heads-none : NoHeads []
+no-heads-none u word has = absurd (none_there (head u, word) has.1)
+
+pub no-heads-both : (front steps : List (Addr × ℕ)) → NoHeads front → NoHeads steps → NoHeads (front ++ steps)
+no-heads-both front steps none more u word has = by (has-either (head u, word) front steps has)
+  where
+    by : Has (head u, word) front ⊎ Has (head u, word) steps → ⊥
+    by (inl t) = none u word t
+    by (inr t) = more u word t
+
+-- nor is one step more, on another word
+pub no-heads-on : (a : Addr) (found : ℕ) (steps : List (Addr × ℕ)) → ((u : ℕ) → a ≡ head u → ⊥) → NoHeads steps → NoHeads ((a, found) ∷ steps)
+no-heads-on a found steps other none u word (zero, at) = other u (ap (λ (p : Addr × ℕ). p.0) (same_some (a, found) (head u, word) at))
+no-heads-on a found steps other none u word (suc k, at) = none u word (k, at)
 
 -- growing twice is growing
-pub grows-on : {A : Type 0} (a b c : List A) → Grows a b → Grows b c → Grows a c
+abbrev pub grows-on : {A : Type 0} (a b c : List A) → Grows a b → Grows b c → Grows a c
 grows-on a b c first second = (second.0 ++ first.0, second.1 ∙ ap (λ l. second.0 ++ l) first.1 ∙ sym (append_assoc second.0 first.0 a))
 
-pub grows-self : {A : Type 0} (a : List A) → Grows a a
+abbrev pub grows-self : {A : Type 0} (a : List A) → Grows a a
 grows-self a = ([], refl)
 
 pub same-on : (a b : ℕ) (old mid new : Pass) → IsSameWith a old mid → IsSameWith b mid new → IsSameWith b old new
@@ -132,6 +159,7 @@ pub record IsDroppingEach (g : Setup) (all rest : List ℕ) (old now : Pass) : T
   pub counted : gone + length rest ≡ length all
   pub settles : Grows (view old).settles (view now).settles
   pub seen : Grows (view old).seen (view now).seen
+  pub elsewhere : NoHeads seen.0
   pub view_is : view now ≡ record (view old) { futures = (view now).futures; sights = (view now).sights; settles = (view now).settles; seen = (view now).seen }
   pub same : IsSameWith (old.held - gone) old now
 
@@ -143,6 +171,7 @@ dropping-starts g all old may = record {
   counted = omega arith;
   settles = grows-self (view old).settles;
   seen = grows-self (view old).seen;
+  elsewhere = no-heads-none;
   view_is = refl;
   same = record { table = refl; id = refl; splits = refl; number = refl; held_is = omega arith };
 }
@@ -175,6 +204,7 @@ dropping-on g all more rest old now new so same drops = record {
   counted = omega (arith, so.counted, length-append more rest);
   settles = grows-on (view old).settles (view now).settles (view new).settles so.settles drops.settles;
   seen = grows-on (view old).seen (view now).seen (view new).seen so.seen drops.seen;
+  elsewhere = no-heads-both drops.seen.0 so.seen.0 drops.elsewhere so.elsewhere;
   view_is = drops.view_is ∙ (λ k. record (so.view_is k) { futures = less (view now).futures more; sights = (view new).sights; settles = (view new).settles; seen = (view new).seen })
       ∙ ap (λ (l : List ℕ). record (view old) { futures = l; sights = (view new).sights; settles = (view new).settles; seen = (view new).seen }) (sym (ap (λ (v : View). v.futures) drops.view_is));
   same = same-on (old.held - so.gone) (old.held - (so.gone + length more)) old now new so.same
@@ -184,8 +214,11 @@ dropping-on g all more rest old now new so same drops = record {
 pub dropping-ends : (g : Setup) (all : List ℕ) (old now : Pass) → IsDroppingEach g all [] old now → IsSameWith (old.held - length all) old now × DropsEach all (view old) (view now)
 dropping-ends g all old now so = (
   record { table = so.same.table; id = so.same.id; splits = so.same.splits; number = so.same.number; held_is = omega (arith, so.same.held_is, so.counted) },
-  record { settles = so.settles; seen = so.seen; view_is = so.view_is ∙ ap (λ (l : List ℕ). record (view old) { futures = l; sights = (view now).sights; settles = (view now).settles; seen = (view now).seen }) so.left },
+  record { settles = so.settles; seen = so.seen; elsewhere = so.elsewhere; view_is = so.view_is ∙ ap (λ (l : List ℕ). record (view old) { futures = l; sights = (view now).sights; settles = (view now).settles; seen = (view now).seen }) so.left },
 )
+
+pub dropping-done : (g : Setup) (all rest : List ℕ) (old now : Pass) → rest ≡ [] → IsDroppingEach g all rest old now → DropsEach all (view old) (view now)
+dropping-done g all rest old now none so = (dropping-ends g all old now (subst (λ (l : List ℕ). IsDroppingEach g all l old now) none so)).1
 
 -- the one unit of a list that has it
 pub one-each : {P : ℕ → Type 0} (o : Option ℕ) (u : ℕ) → Each P (option_to_list o) → o ≡ Some u → P u
@@ -219,15 +252,32 @@ settles-one g u v w drops = by (cases_eq drops.found 1)
     by (inl last) = let frees = drops.last last in (place (superblock_of g u) frees.class ∷ [], ap (λ (x : View). x.settles) frees.view_is)
     by (inr other) = ([], ap (λ (x : View). x.settles) (drops.more other))
 
+-- its steps are on the reference word, and where the record is freed on its state and in the pool
+steps-one : (g : Plan) (u : ℕ) (v w : View) → Drops g u v w → (steps : List (Addr × ℕ)) × (w.seen ≡ steps ++ v.seen) × NoHeads steps
+steps-one g u v w drops = by (cases_eq drops.found 1)
+  where
+    by : (drops.found ≡ 1) ⊎ (drops.found ≢ 1) → (steps : List (Addr × ℕ)) × (w.seen ≡ steps ++ v.seen) × NoHeads steps
+    by (inl last) =
+        let f = drops.last last in let i = superblock_of g u in let j = bit_of g u f.class / 64 in (
+          (super i, f.count_was) ∷ (bits i j, f.bits_were) ∷ (super i, f.superblock_was) ∷ (state u, f.state_was) ∷ (refs u, 1) ∷ [],
+          ap (λ (x : View). x.seen) f.view_is,
+          no-heads-on (super i) f.count_was ((bits i j, f.bits_were) ∷ (super i, f.superblock_was) ∷ (state u, f.state_was) ∷ (refs u, 1) ∷ []) (λ n e. cc)
+              (no-heads-on (bits i j) f.bits_were ((super i, f.superblock_was) ∷ (state u, f.state_was) ∷ (refs u, 1) ∷ []) (λ n e. cc)
+              (no-heads-on (super i) f.superblock_was ((state u, f.state_was) ∷ (refs u, 1) ∷ []) (λ n e. cc)
+              (no-heads-on (state u) f.state_was ((refs u, 1) ∷ []) (λ n e. cc) (no-heads-on (refs u) 1 [] (λ n e. cc) no-heads-none)))),
+        )
+    by (inr other) = ((refs u, drops.found) ∷ [], ap (λ (x : View). x.seen) (drops.more other), no-heads-on (refs u) drops.found [] (λ n e. cc) no-heads-none)
+
 pub dropped-one : (g : Plan) (o : Option ℕ) (u : ℕ) (v w : View) → o ≡ Some u → Drops g u v w → GivesBack u v w → DropsEach (option_to_list o) v w
 dropped-one g o u v w e drops gives = subst (λ (x : Option ℕ). DropsEach (option_to_list x) v w) (sym e) (record {
   settles = settles-one g u v w drops;
-  seen = (gives.steps, gives.since);
+  seen = let steps = steps-one g u v w drops in (steps.0, steps.1);
+  elsewhere = (steps-one g u v w drops).2;
   view_is = gives.view_is ∙ (λ k. record v { futures = dropped (is_at u) v.futures; sights = (sym gives.view_is k).sights; settles = w.settles; seen = w.seen });
 })
 
 pub dropped-none : (o : Option ℕ) (v : View) → o ≡ None → DropsEach (option_to_list o) v v
-dropped-none o v e = subst (λ (x : Option ℕ). DropsEach (option_to_list x) v v) (sym e) (record { settles = grows-self v.settles; seen = grows-self v.seen; view_is = refl })
+dropped-none o v e = subst (λ (x : Option ℕ). DropsEach (option_to_list x) v v) (sym e) (record { settles = grows-self v.settles; seen = grows-self v.seen; elsewhere = no-heads-none; view_is = refl })
 
 -- the words of a list that name units, one word more
 pub named-first : (words : List ℕ) (n word : ℕ) (o : Option ℕ) → n < length words → word ≡ slice_index words n → o ≡ unit_named word

@@ -1,5 +1,5 @@
 -- The next root is asked for: references to the records of the roots that its line names are taken, and given back in the end.
-use Rattle.std.proofs.Common.{◌≡◌, ◌∙◌, inl, inr, ℕ, zero, suc, ◌+◌, ◌^◌, ◌<◌, ◌≤◌, ◌==◌, Bool, true, cond, Option, Some, None, List, [], ◌∷◌, ◌++◌, map, length, refl, sym, ap, subst, append_assoc, arith}
+use Rattle.std.proofs.Common.{◌≡◌, ◌∙◌, ℕ, zero, suc, ◌+◌, ◌^◌, ◌<◌, ◌≤◌, ◌==◌, Bool, true, cond, Option, Some, None, List, [], ◌∷◌, ◌++◌, map, length, refl, sym, ap, subst, append_assoc, arith}
 use Rattle.std.specs.Prelude.{slice_get}
 use Rattle.std.specs.List.{flat_map}
 use Rattle.std.specs.Option.{option_to_list}
@@ -39,7 +39,6 @@ use Rattle.step_table.specs.RecordHands.{HasFuture, MadeAt}
 use Rattle.step_table.specs.declared.record_tokens.Made.{Made}
 use Rattle.schedule_core.specs.Begins.{HasBegun, SawLimit}
 use Rattle.schedule_core.specs.Hosting.{IsNextRoot, IsBehindRoot, HaveRecords, HasHosted, MeetsLimit, Hosts, ReadsRoot, says_next}
-use Rattle.schedule_core.specs.Making.{Enters}
 use Rattle.schedule_core.specs.NamedRoots.{ArePassedAs, IsPassedAs, HaveRootRecords, SawLast, TakesUnits}
 use Rattle.schedule_core.specs.References.{Grows, DropsEach, MayDropEach}
 use Rattle.schedule_core.specs.RootStages.{IsRootTask, MayPlaceRoot, NamesLimit, NamesTask, PlacesRoot, asking_root, root_placement, units_of_task}
@@ -50,10 +49,10 @@ use Rattle.schedule_core.specs.declared.answers.HostSpawned.{HostSpawned}
 use Rattle.schedule_core.specs.declared.answers.HostSpawned.TheVariants as hosted
 use Rattle.schedule_core.specs.declared.hosting.RootTask.{RootTask}
 use Rattle.schedule_core.specs.declared.making.Behind.{Behind}
-use Rattle.schedule_core.proofs.EachFacts.{grows-on, less-parts}
+use Rattle.schedule_core.proofs.EachFacts.{grows-on, less-parts, no-heads-both}
 use Rattle.schedule_core.proofs.LessFacts.{less-front}
 use Rattle.schedule_core.proofs.PassedRoots.{present-few}
-use Rattle.schedule_core.proofs.Placing.{enters-more, has-before}
+use Rattle.schedule_core.proofs.Placing.{drawn-later, drawn-more, enters-later, enters-more, has-before}
 use Rattle.schedule_core.proofs.RootCalls.{call-is, known_tasks, passed-agrees, seen-known, there-too}
 use Rattle.schedule_core.proofs.SpawnEnds.{first-dropped}
 use Rattle.schedule_core.proofs.SpawnFrames.{may-enter, some-present}
@@ -126,6 +125,7 @@ pub drops-both : (xs ys : List ℕ) (u v w : View) → DropsEach xs u v → Drop
 drops-both xs ys u v w first second = record {
   settles = grows-on u.settles v.settles w.settles first.settles second.settles;
   seen = grows-on u.seen v.seen w.seen first.seen second.seen;
+  elsewhere = no-heads-both second.seen.0 first.seen.0 second.elsewhere first.elsewhere;
   view_is = second.view_is
       ∙ (λ k. record (first.view_is k) { futures = less (first.view_is k).futures ys; sights = w.sights; settles = w.settles; seen = w.seen })
       ∙ (λ k. record u { futures = sym (less-parts u.futures xs ys) k; sights = w.sights; settles = w.settles; seen = w.seen });
@@ -143,12 +143,6 @@ saw-between limit u v w z before saw after = (
   has-before {A = Addr × ℕ} (sum 0, saw.1) (after.0 ++ saw.0) before.0 (has-behind {A = Addr × ℕ} (sum 0, saw.1) after.0 saw.0 saw.3),
   saw.4,
 )
-
--- it enters with more steps behind
-enters-behind : (unit number : ℕ) (behind : Option Behind) (told : Option Entry) (more steps : List (Addr × ℕ)) → Enters unit number behind told steps → Enters unit number behind told (more ++ steps)
-enters-behind unit number behind None more steps enters = enters
-enters-behind unit number behind (Some e) more steps (unit_is, number_is, inl none) = (unit_is, number_is, inl none)
-enters-behind unit number behind (Some e) more steps (unit_is, number_is, inr (b, is, has)) = (unit_is, number_is, inr (b, is, has-behind _ more steps has))
 
 module _ (g : Setup) (root : ℕ) (line : RootLine) (made : Made) (v : View) (base : View) (asked : List RootSays) (next : IsNextRoot g root line asked base) (have : HaveRecords line asked)
     (begun : HasBegun g (kind_class g.checked line.kind) (asking_root root) base made v) where
@@ -327,17 +321,21 @@ module _ (g : Setup) (root : ℕ) (line : RootLine) (made : Made) (v : View) (ba
     has-hosted a n entry names drops = record {
       unit = u;
       number = names.number;
-      within = names.within;
       is_block = begun.is_block;
       known = known;
       behind = x.behind;
       behind_is = is_task.behind;
-      steps = (drops.seen.0 ++ names.steps) ++ takes.steps ++ begun.seen.0;
-      since = drops.seen.1 ∙ ap (λ (l : List (Addr × ℕ)). drops.seen.0 ++ l) (names.since ∙ ap (λ (l : List (Addr × ℕ)). names.steps ++ l) (takes.since ∙ ap (λ (l : List (Addr × ℕ)). takes.steps ++ l) begun.seen.1)) ∙ regroup;
-      reads = λ k r at. read-more begun.seen.0 (drops.seen.0 ++ names.steps) r (read-roots k r at);
-      enters = enters-more u names.number x.behind entry ((drops.seen.0 ++ names.steps) ++ takes.steps) begun.seen.0
-          (enters-more u names.number x.behind entry (drops.seen.0 ++ names.steps) takes.steps (enters-behind u names.number x.behind entry drops.seen.0 names.steps names.enters));
-      ready_with = names.ready_with;
+      placed = record {
+        within = names.placed.within;
+        steps = (drops.seen.0 ++ names.placed.steps) ++ takes.steps ++ begun.seen.0;
+        since = drops.seen.1 ∙ ap (λ (l : List (Addr × ℕ)). drops.seen.0 ++ l) (names.placed.since ∙ ap (λ (l : List (Addr × ℕ)). names.placed.steps ++ l) (takes.since ∙ ap (λ (l : List (Addr × ℕ)). takes.steps ++ l) begun.seen.1)) ∙ regroup;
+        drawn = drawn-more names.number ((drops.seen.0 ++ names.placed.steps) ++ takes.steps) begun.seen.0
+            (drawn-more names.number (drops.seen.0 ++ names.placed.steps) takes.steps (drawn-later names.number drops.seen.0 names.placed.steps names.placed.drawn));
+        enters = enters-more u names.number line.priority x.behind entry ((drops.seen.0 ++ names.placed.steps) ++ takes.steps) begun.seen.0
+            (enters-more u names.number line.priority x.behind entry (drops.seen.0 ++ names.placed.steps) takes.steps
+            (enters-later u names.number line.priority x.behind entry drops.seen.0 names.placed.steps drops.elsewhere names.placed.enters));
+      };
+      reads = λ k r at. read-more begun.seen.0 (drops.seen.0 ++ names.placed.steps) r (read-roots k r at);
       looks = (begun.looks.0, ap (λ (y : View). y.looks) whole ∙ begun.looks.1);
       facts = grows-on base.facts z.facts n.facts facts-taken (names.facts.0, ap (λ (y : View). y.facts) drops.view_is ∙ names.facts.1);
       settles = (drops.settles.0, drops.settles.1 ∙ ap (λ (y : View). drops.settles.0 ++ y.settles) names.view_is ∙ ap (λ (y : View). drops.settles.0 ++ y.settles) taken-is);
@@ -357,9 +355,9 @@ module _ (g : Setup) (root : ℕ) (line : RootLine) (made : Made) (v : View) (ba
       });
     }
       where
-        regroup : drops.seen.0 ++ (names.steps ++ (takes.steps ++ (begun.seen.0 ++ base.seen))) ≡ ((drops.seen.0 ++ names.steps) ++ takes.steps ++ begun.seen.0) ++ base.seen
-        regroup = sym (append_assoc ((drops.seen.0 ++ names.steps) ++ takes.steps) begun.seen.0 base.seen ∙ append_assoc (drops.seen.0 ++ names.steps) takes.steps (begun.seen.0 ++ base.seen)
-            ∙ append_assoc drops.seen.0 names.steps (takes.steps ++ (begun.seen.0 ++ base.seen)))
+        regroup : drops.seen.0 ++ (names.placed.steps ++ (takes.steps ++ (begun.seen.0 ++ base.seen))) ≡ ((drops.seen.0 ++ names.placed.steps) ++ takes.steps ++ begun.seen.0) ++ base.seen
+        regroup = sym (append_assoc ((drops.seen.0 ++ names.placed.steps) ++ takes.steps) begun.seen.0 base.seen ∙ append_assoc (drops.seen.0 ++ names.placed.steps) takes.steps (begun.seen.0 ++ base.seen)
+            ∙ append_assoc drops.seen.0 names.placed.steps (takes.steps ++ (begun.seen.0 ++ base.seen)))
 
         whole : n ≡ record (says_next (Record u) base) {
           made = dropped (is_made_at u) (new_made (block u class true) ∷ base.made);

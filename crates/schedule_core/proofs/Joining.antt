@@ -12,16 +12,18 @@ use Rattle.table_core.specs.WaitViews.{is_waiter_at}
 use Rattle.table_core.specs.declared.setup.Setup.{Setup}
 use Rattle.table_core.specs.declared.view.View.{View}
 use Rattle.schedule_rule.specs.LifeViews.{KnowsOver, MayStart}
+use Rattle.schedule_rule.specs.SeeingViews.{IsWaitingWord}
 use Rattle.schedule_rule.specs.SoundViews.{SoundView}
 use Rattle.step_table.specs.Lookups.{waiter_in}
 use Rattle.step_table.specs.Passes.{view}
+use Rattle.step_table.specs.RecordHands.{WaiterAt}
 use Rattle.step_table.specs.SeeingSteps.{MayReady, Readies}
 use Rattle.step_table.specs.declared.pass.Pass.{Pass}
 use Rattle.step_table.specs.declared.record_tokens.Linkable.{Linkable}
 use Rattle.wait_lists.specs.Joining.{IsRelinked, MayJoin, Waits, SawClosed}
 use Rattle.wait_lists.proofs.JoinFacts.{has-behind}
 use Rattle.wait_lists.proofs.Relinking.{dropped-link_in}
-use Rattle.schedule_core.specs.Entries.{entry_of}
+use Rattle.schedule_core.specs.Entries.{entry_of, priority_at}
 use Rattle.schedule_core.specs.Making.{JoinsBehind}
 use Rattle.schedule_core.specs.declared.making.Behind.{Behind}
 
@@ -62,7 +64,17 @@ pub join-closed : (g : Setup) (unit : ℕ) (behind : Behind) (old : View) (mid n
 join-closed g unit behind old mid new word may closed ready sound = record {
   steps = (state unit, ready.found) ∷ (state unit, ready.was) ∷ closed.steps;
   since = ap (λ (v : View). v.seen) ready.view_is ∙ ap (λ (l : List (Addr × ℕ)). (state unit, ready.found) ∷ (state unit, ready.was) ∷ l) closed.on_list.since;
-  enters = (refl, λ w there. number w there, (suc (suc closed.closed.0), closed.closed.1));
+  enters = (
+    refl,
+    λ w there. number w there,
+    record {
+      closed = (suc (suc closed.closed.0), closed.closed.1);
+      was = ready.was;
+      saw = (1, refl);
+      waited = waited;
+      priority_is = ap priority_at ready.priority_is;
+    },
+  );
   facts = (closed.facts.0, ap (λ (v : View). v.facts) ready.view_is ∙ closed.facts.1);
   sights = (closed.on_list.sights.0, ap (λ (v : View). v.sights) ready.view_is ∙ closed.on_list.sights.1);
   sound = sound;
@@ -71,6 +83,11 @@ join-closed g unit behind old mid new word may closed ready sound = record {
   where
     number : (w : Waiter) → waiter_in unit old.waiting ≡ Some w → word.number ≡ w.number
     number w there = let still = closed.still w there in ready.number_is still.waiter (record { near = may.at.near; there = still.there }) ∙ still.number_is
+
+    waited : IsWaitingWord word.number ready.was
+    waited =
+        let still = closed.still may.waiter may.at.there in let at : WaiterAt g.plan unit (view mid) still.waiter = record { near = may.at.near; there = still.there } in
+        subst (λ (n : ℕ). IsWaitingWord n ready.was) (sym (ready.number_is still.waiter at)) (ready.waited still.waiter at)
 
     dropped_is : dropped (is_waiter_at unit) (view mid).waiting ≡ dropped (is_waiter_at unit) old.waiting
     dropped_is = by closed.waiting

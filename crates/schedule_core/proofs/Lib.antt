@@ -2,6 +2,7 @@ pub mod LessFacts
 pub mod ChangedRuns
 pub mod BagFacts
 pub mod EachFacts
+pub mod TellingFull
 pub mod WrittenFrames
 pub mod TakenRuns
 pub mod NextReady

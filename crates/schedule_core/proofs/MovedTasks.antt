@@ -30,7 +30,7 @@ use Rattle.step_table.specs.declared.pass.Pass.{Pass}
 use Rattle.schedule_core.specs.Bags.{IsSpare}
 use Rattle.schedule_core.specs.Moves.{HasLoose, DropsLoose, SeesFrame, looking_at}
 use Rattle.schedule_core.specs.References.{Grows, MayDropEach, DropsEach}
-use Rattle.schedule_core.specs.Runs.{IsTask, IsInStep, IsSameKind}
+use Rattle.schedule_core.specs.Runs.{IsTask, IsInStep, IsSameState}
 use Rattle.schedule_core.specs.declared.running.Running.{Running}
 use Rattle.schedule_core.proofs.BagFacts.{bag-moved}
 use Rattle.schedule_core.proofs.EachFacts.{grows-on, less-parts}
@@ -50,7 +50,7 @@ spare-fewer p u units fewer v less_of s = record {
 
 -- a running task is in step with a frame of its kind that names what is spare
 pub in-step-at : (g : Setup) (x y : Running) (v : View) → y ≡ record x { frame = y.frame } → IsInStep g x v → IsFrame g.checked y.frame.items → BodyHasWay g.checked (body_of g.checked y.frame.items)
-    → HoldsNames g.checked (body_of g.checked y.frame.items) → ((b : BodyOf ℕ) → IsSameKind b (body_of g.checked x.frame.items) → IsSameKind b (body_of g.checked y.frame.items)) → IsSpare g.checked x.started.unit (named_in g.checked y.frame.items) v → IsInStep g y v
+    → HoldsNames g.checked (body_of g.checked y.frame.items) → ((b : BodyOf ℕ) → IsSameState b (body_of g.checked x.frame.items) → IsSameState b (body_of g.checked y.frame.items)) → IsSpare g.checked x.started.unit (named_in g.checked y.frame.items) v → IsInStep g y v
 in-step-at g x y v is s frame way names same spare = subst (λ (z : Running). IsInStep g z v) (sym is) (record {
   run = s.run;
   at = s.at;
@@ -66,13 +66,13 @@ in-step-at g x y v is s frame way names same spare = subst (λ (z : Running). Is
 })
 
 -- the frame of a task stands on from an earlier one of its kind
-moved-task : (p : Program) (words next : List ℕ) → IsTask (body_of p next) → IsSameKind (body_at p (slice_index words)) (body_of p next) → BodyHasWay p (body_of p next) → IsFrame p next → IsMovedFrame p words next
+moved-task : (p : Program) (words next : List ℕ) → IsTask (body_of p next) → IsSameState (body_at p (slice_index words)) (body_of p next) → BodyHasWay p (body_of p next) → IsFrame p next → IsMovedFrame p words next
 moved-task p words next single same way frame = by (is_aggregate (slice_index words 0)) refl (is_aggregate (slice_index next 0)) refl single same way
   where
     body : List ℕ → Bool → BodyOf ℕ
     body l b = cond b (OfMembers (members_at (slice_index l)) (control_at (slice_index l 0))) (OfKind (frame_at p (slice_index l)))
 
-    by : (b : Bool) → is_aggregate (slice_index words 0) ≡ b → (d : Bool) → is_aggregate (slice_index next 0) ≡ d → IsTask (body next d) → IsSameKind (body words b) (body next d) → BodyHasWay p (body next d)
+    by : (b : Bool) → is_aggregate (slice_index words 0) ≡ b → (d : Bool) → is_aggregate (slice_index next 0) ≡ d → IsTask (body next d) → IsSameState (body words b) (body next d) → BodyHasWay p (body next d)
         → IsMovedFrame p words next
     by b e true e' single' same' way' = absurd single'
     by true e false e' single' same' way' = absurd same'

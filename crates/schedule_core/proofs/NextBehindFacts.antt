@@ -2,13 +2,12 @@
 use Rattle.std.proofs.Common.{◌≡◌, ◌∙◌, inr, ℕ, ◌≤◌, Bool, true, cond, Option, Some, None, List, [], ◌∷◌, ◌++◌, refl, sym, ap, subst, append_assoc, arith}
 use Rattle.std.proofs.lemmas.Bool.{eq-eqb}
 use Rattle.record_core.specs.Counting.{Has, times, one_if, dropped}
-use Rattle.kt_words.specs.HeadWords.{closed_word}
 use Rattle.task_syntax.specs.declared.program.Program.{Program}
 use Rattle.task_syntax.specs.declared.value.Priority.{Priority}
 use Rattle.task_meaning.specs.Worths.{Respawn}
 use Rattle.ready_queues.specs.declared.entry.Entry.{Entry}
 use Rattle.frame_code.specs.Units.{named_in}
-use Rattle.table_core.specs.Addresses.{Addr, state, refs, head}
+use Rattle.table_core.specs.Addresses.{Addr, state, refs}
 use Rattle.table_core.specs.Holdings.{Run, Waiter, Sight, SawTask}
 use Rattle.table_core.specs.RecordViews.{is_at, referred}
 use Rattle.table_core.specs.Story.{Fact, IsAccepted}
@@ -23,15 +22,14 @@ use Rattle.schedule_rule.proofs.PlacingFacts.{times-less}
 use Rattle.step_table.specs.Lookups.{run_in, waiter_in}
 use Rattle.step_table.specs.PlacingSteps.{placed_next}
 use Rattle.step_table.specs.RecordHands.{RunAt, HasFuture, MayLessen}
-use Rattle.future_refs.specs.Drops.{GivesBack}
 use Rattle.wait_lists.specs.Joining.{MayJoin}
-use Rattle.schedule_core.specs.Making.{JoinsBehind, EntersClosed}
+use Rattle.schedule_core.specs.Making.{Enters, EntersClosed, JoinsBehind}
 use Rattle.schedule_core.specs.FrameWords.{WritesFrame}
-use Rattle.schedule_core.specs.NextPlaces.{MayPlaceFrame, IsPlacedAgain, EntersAgain, PlacesAgain}
-use Rattle.schedule_core.proofs.Joining.{has-grown}
+use Rattle.schedule_core.specs.NextPlaces.{MayPlaceFrame, IsPlacedAgain, PlacesAgain}
+use Rattle.schedule_core.specs.References.{DropsEach}
 use Rattle.schedule_core.proofs.LessParts.{less-added}
 use Rattle.schedule_core.proofs.KeptSights.{kept-has}
-use Rattle.schedule_core.proofs.Placing.{has-before}
+use Rattle.schedule_core.proofs.Placing.{closed-more, enters-later}
 use Rattle.schedule_core.proofs.NextPlaceFacts.{may-referred, unit-near, placed-view, placed-sights, placed-facts, placed-seen}
 
 -- The task is t, and its record at b.
@@ -128,7 +126,7 @@ module _ (g : Setup) (u n b t found : ℕ) (words : List ℕ) (v cloned w : View
           runs-back : dropped (is_run_at u) v.runs ≡ y.runs
           runs-back = sym (ap (λ (z : View). z.runs) joined.view_is ∙ ap (λ (z : View). z.runs) (placed the_run may.at) ∙ ap (λ (z : View). dropped (is_run_at u) z.runs) is)
 
-      module _ (z : View) (gives : GivesBack b y z) where
+      module _ (z : View) (gives : DropsEach (b ∷ []) y z) where
         gone : (l : List Waiter) → dropped (is_waiter_at u) (new_waiter u n ∷ l) ≡ l
         gone l = ap (λ (c : Bool). cond c l (new_waiter u n ∷ dropped (is_waiter_at u) l)) (eq-eqb u u refl)
 
@@ -136,21 +134,28 @@ module _ (g : Setup) (u n b t found : ℕ) (words : List ℕ) (v cloned w : View
         steps-joined = joined.steps ++ steps-left
 
         abbrev steps-all : List (Addr × ℕ)
-        steps-all = gives.steps ++ steps-joined
+        steps-all = gives.seen.0 ++ steps-joined
 
         seen-joined : y.seen ≡ steps-joined ++ v.seen
         seen-joined = joined.since ∙ ap (λ (l : List (Addr × ℕ)). joined.steps ++ l) seen-left ∙ sym (append_assoc joined.steps steps-left v.seen)
 
         seen-all : z.seen ≡ steps-all ++ v.seen
-        seen-all = gives.since ∙ ap (λ (l : List (Addr × ℕ)). gives.steps ++ l) seen-joined ∙ sym (append_assoc gives.steps steps-joined v.seen)
+        seen-all = gives.seen.1 ∙ ap (λ (l : List (Addr × ℕ)). gives.seen.0 ++ l) seen-joined ∙ sym (append_assoc gives.seen.0 steps-joined v.seen)
 
-        enters-all : (priority : Priority) (task : ℕ) → (o : Option Entry) → EntersClosed u b x o joined.steps → EntersAgain u n priority (Some (record { unit = b; task = task })) o steps-all
-        enters-all priority task None enters = (record { unit = b; task = task }, refl)
-        enters-all priority task (Some e) enters = (
+        enters-joined : (priority : Priority) (task : ℕ) (o : Option Entry) → EntersClosed u b x o joined.steps → Enters u n priority (Some (record { unit = b; task = task })) o steps-joined
+        enters-joined priority task None opened = (
+          record { unit = b; task = task },
+          refl,
+          record { later = joined.steps; before = wrote.seen.0 ++ (refs b, found) ∷ []; found = at_state; parts = refl; unclosed = opened },
+        )
+        enters-joined priority task (Some e) enters = (
           enters.0,
           enters.1 (new_waiter u n) (ap (λ (s : View). waiter_in u s.waiting) (placed the_run may.at) ∙ ap (λ (c : Bool). cond c (Some (new_waiter u n)) (waiter_in u cloned.waiting)) (eq-eqb u u refl)),
-          inr (record { unit = b; task = task }, refl, has-grown (head b, closed_word) steps-joined steps-all gives.steps refl (has-before (head b, closed_word) joined.steps steps-left enters.2)),
+          inr (record { unit = b; task = task }, refl, closed-more u b e joined.steps steps-left enters.2),
         )
+
+        enters-all : (priority : Priority) (task : ℕ) → Enters u n priority (Some (record { unit = b; task = task })) told steps-all
+        enters-all priority task = enters-later u n priority (Some (record { unit = b; task = task })) told gives.seen.0 steps-joined gives.elsewhere (enters-joined priority task told joined.enters)
 
         view-placed : IsPlacedAgain g u n words v z
         view-placed run at = all ∙ (λ k. record v {
@@ -181,7 +186,7 @@ module _ (g : Setup) (u n b t found : ℕ) (words : List ℕ) (v cloned w : View
               seen = z.seen;
             }
             all = gives.view_is
-                ∙ (λ k. record (joined.view_is k) { futures = dropped (is_at b) (joined.view_is k).futures; sights = (sym gives.view_is k).sights; settles = z.settles; seen = z.seen })
+                ∙ (λ k. record (joined.view_is k) { futures = dropped (is_at b) (joined.view_is k).futures; sights = z.sights; settles = z.settles; seen = z.seen })
                 ∙ (λ k. record (placed run at k) {
                   waiting = dropped (is_waiter_at u) (placed run at k).waiting;
                   facts = y.facts;
@@ -210,7 +215,8 @@ module _ (g : Setup) (u n b t found : ℕ) (words : List ℕ) (v cloned w : View
         placed-behind priority task = record {
           steps = steps-all;
           since = seen-all;
-          enters = enters-all priority task told joined.enters;
+          enters = enters-all priority task;
           facts = (joined.facts.0, ap (λ (s : View). s.facts) gives.view_is ∙ joined.facts.1 ∙ ap (λ (l : List Fact). joined.facts.0 ++ l) facts-left);
+          settles = (gives.settles.0, gives.settles.1 ∙ ap (λ (s : View). gives.settles.0 ++ s.settles) joined.view_is ∙ ap (λ (s : View). gives.settles.0 ++ s.settles) (placed the_run may.at) ∙ ap (λ (s : View). gives.settles.0 ++ s.settles) is);
           view_is = view-placed;
         }

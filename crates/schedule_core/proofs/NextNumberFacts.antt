@@ -28,7 +28,7 @@ use Rattle.schedule_core.specs.Making.{KnowsPredecessor, task_behind}
 use Rattle.schedule_core.specs.SeenTasks.{unit_behind, with_behind}
 use Rattle.schedule_core.specs.NextNumbers.{IsOpened, IsNextUnit, MayNumber, SawBehind, HasNumber, MetLimitNext, drew_next}
 use Rattle.schedule_core.specs.References.{Grows}
-use Rattle.schedule_core.specs.Runs.{IsSameKind, IsInStep}
+use Rattle.schedule_core.specs.Runs.{IsSameState, IsInStep}
 use Rattle.schedule_core.specs.declared.making.Behind.{Behind}
 use Rattle.schedule_core.specs.declared.running.Running.{Running}
 
@@ -57,7 +57,7 @@ behind-known None v = tt
 behind-known (Some b) v = (b.unit, (0, refl))
 
 -- what an activation is behind is known: an aggregate's is the next member, whose task was seen just now
-next-known : (a b : BodyOf ℕ) (wanted : Option ℕ) (behind : Option Behind) (v : View) → IsSameKind a b → IsNextUnit wanted b → unit_behind behind ≡ wanted → NextBehind (with_behind behind v) (task_behind behind) a
+next-known : (a b : BodyOf ℕ) (wanted : Option ℕ) (behind : Option Behind) (v : View) → IsSameState a b → IsNextUnit wanted b → unit_behind behind ≡ wanted → NextBehind (with_behind behind v) (task_behind behind) a
 next-known (OfKind q) (OfKind now) wanted behind v same next is = behind-known behind v
 next-known (OfKind q) (OfMembers units at) wanted behind v same next is = absurd same
 next-known (OfMembers units next) (OfKind now) wanted behind v same next' is = absurd same
@@ -232,6 +232,7 @@ module _ (g : Setup) (x : Running) (wanted : Option ℕ) (v w : View) (behind : 
         accepted = (0, ap (λ (z : View). slice_get z.facts 0) told);
         steps = (journal n 1, after_row.found) ∷ (journal n 0, task_row.found) ∷ (sum 0, won.found) ∷ old-steps;
         since = ap (λ (z : View). z.seen) told ∙ ap (λ (l : List (Addr × ℕ)). (journal n 1, after_row.found) ∷ (journal n 0, task_row.found) ∷ (sum 0, won.found) ∷ l) seen-opened;
+        drawn = (won.found, won.is_next, (2, refl));
         saw = saw-behind behind ((journal n 1, after_row.found) ∷ (journal n 0, task_row.found) ∷ (sum 0, won.found) ∷ []) ((sum 0, first_found) ∷ []);
         facts = (
           IsAccepted n (Respawn x.task after) ∷ facts-opened.0,

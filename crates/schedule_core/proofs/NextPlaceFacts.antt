@@ -163,6 +163,7 @@ module _ (g : Setup) (u n : ℕ) (after : Option ℕ) (words : List ℕ) (v : Vi
           since = placed-seen false found x tells may.run may.at;
           enters = (refl, ap (λ (z : StateWord). z.number) is, inl (refl, priority-back priority word n is));
           facts = ([], placed-facts false found x tells may.run may.at);
+          settles = ([], ap (λ (z : View). z.settles) (placed-view false found x tells may.run may.at));
           view_is = λ run at. let view = placed-view false found x tells run at in
               view ∙ (λ k. record v {
                 runs = dropped (is_run_at u) v.runs;

@@ -4,6 +4,7 @@ use Rattle.std.specs.Prelude.{IfSome, slice_index}
 use Rattle.record_core.specs.Counting.{Has, times, dropped, one_if}
 use Rattle.record_core.proofs.TotalFacts.{total-append}
 use Rattle.task_syntax.specs.declared.program.Program.{Program}
+use Rattle.task_syntax.specs.declared.value.Priority.{Priority}
 use Rattle.task_meaning.specs.Worths.{Accepted, OfCall, OfAll, Respawn}
 use Rattle.ready_queues.specs.declared.entry.Entry.{Entry}
 use Rattle.frame_code.specs.Names.{named}
@@ -33,7 +34,7 @@ use Rattle.schedule_core.specs.Making.{MayOffer, FillsNew, MayPlaceNew, PlacesNe
 use Rattle.schedule_core.specs.declared.making.Behind.{Behind}
 use Rattle.schedule_core.proofs.ChangedRuns.{dropped-changed, first-changed}
 use Rattle.schedule_core.proofs.LessFacts.{less-front}
-use Rattle.schedule_core.proofs.Placing.{enters-more, waits-more}
+use Rattle.schedule_core.proofs.Placing.{enters-more}
 use Rattle.schedule_core.proofs.KeptSights.{kept-has}
 
 -- a frame is the first one of a call in each view with the same sights
@@ -168,13 +169,12 @@ module _ (g : Setup) (made : Made) (number : ℕ) (behind : Option Behind) (word
           has-later s t l has = (suc has.0, has.1)
 
   -- and what then has happened to it
-  pub offers-new : (told : Future × Option Entry) (new : View) → PlacesNew g made number behind x w told new → Offers g made number behind x v told new
-  offers-new told new placed = record {
+  pub offers-new : (priority : Priority) (told : Future × Option Entry) (new : View) → PlacesNew g made number priority behind x w told new → Offers g made number priority behind x v told new
+  offers-new priority told new placed = record {
     future_is = placed.future_is;
     steps = placed.steps ++ fills.seen.0;
     since = placed.since ∙ ap (λ l. placed.steps ++ l) fills.seen.1 ∙ sym (append_assoc placed.steps fills.seen.0 v.seen);
-    enters = enters-more u number behind told.1 placed.steps fills.seen.0 placed.enters;
-    waits = waits-more u behind told.1 placed.steps fills.seen.0 placed.waits;
+    enters = enters-more u number priority behind told.1 placed.steps fills.seen.0 placed.enters;
     facts = (placed.facts.0, placed.facts.1 ∙ ap (λ (t : View). placed.facts.0 ++ t.facts) fills.view_is);
     sees = placed.sees;
     kept = λ s has some. placed.kept s (subst (λ (t : View). Has s t.sights) (sym fills.view_is) has) some;
@@ -207,6 +207,6 @@ module _ (g : Setup) (made : Made) (number : ℕ) (behind : Option Behind) (word
       new_known = sym (ap (λ (t : View). t.known) placed.view_is)
 
 -- the pass counts one reference more
-pub offered-few : (g : Setup) (made : Made) (number : ℕ) (behind : Option Behind) (x : Placement) (old : Pass) (new : View) (told : Future × Option Entry) (held : ℕ) → held ≡ old.held → length (view old).futures ≤ old.held
-    → Offers g made number behind x (view old) told new → length new.futures ≤ held + 1
-offered-few g made number behind x old new told held held_is counted offers = omega (arith, held_is, counted, ap (λ (t : View). length t.futures) offers.view_is)
+pub offered-few : (g : Setup) (made : Made) (number : ℕ) (priority : Priority) (behind : Option Behind) (x : Placement) (old : Pass) (new : View) (told : Future × Option Entry) (held : ℕ) → held ≡ old.held → length (view old).futures ≤ old.held
+    → Offers g made number priority behind x (view old) told new → length new.futures ≤ held + 1
+offered-few g made number priority behind x old new told held held_is counted offers = omega (arith, held_is, counted, ap (λ (t : View). length t.futures) offers.view_is)

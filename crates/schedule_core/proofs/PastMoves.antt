@@ -20,11 +20,12 @@ use Rattle.schedule_rule.specs.Frames.{HoldsNames}
 use Rattle.schedule_rule.specs.LifeViews.{with_words}
 use Rattle.schedule_rule.proofs.PlacingFacts.{times-less}
 use Rattle.schedule_core.specs.Bags.{IsSpare}
-use Rattle.schedule_core.specs.Moves.{HasLoose, DropsLoose, GoesPast, set_past, unit_at}
+use Rattle.schedule_core.specs.Moves.{HasLoose, DropsLoose, GoesPast, Names, Puts, set_past, unit_at, unmade}
 use Rattle.schedule_core.specs.Runs.{IsInStep}
 use Rattle.schedule_core.specs.declared.running.Running.{Running}
 use Rattle.schedule_core.proofs.MovedTasks.{spare-fewer, in-step-at}
 use Rattle.schedule_core.proofs.PastNames.{IsPast, StandsTouching, goes-past}
+use Rattle.schedule_core.proofs.SpawnBlocks.{answered-in-step}
 
 -- a future may be put into a variable before or after the act
 commutes : (x : ℕ) (future : Option ℕ) (b : BodyOf ℕ) → passed_on (with_future x future b) ≡ with_future x future (passed_on b)
@@ -114,3 +115,17 @@ module _ (g : Setup) (x y : Running) (to : ℕ) (future before : Option ℕ) (v 
     });
     in_step = stays;
   }
+
+-- the record that was made for it is named then
+pub named-past : (g : Setup) (x y : Running) (to unit : ℕ) (old new : View) → Puts g x to unit old y new → Names g x to unit old (unmade y) new
+named-past g x y to unit old new put = record {
+  moved = ap unmade put.moved;
+  body_is = put.body_is;
+  names = put.names;
+  count = put.count;
+  referred = put.referred;
+  settles = put.settles;
+  seen = put.seen;
+  view_is = put.view_is;
+  in_step = answered-in-step g y (unmade y) new refl put.in_step;
+}

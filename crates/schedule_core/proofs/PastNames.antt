@@ -26,7 +26,7 @@ use Rattle.frame_code.proofs.NameChanges.{name-changes}
 use Rattle.frame_code.proofs.Variables.{sort-within, length-futures}
 use Rattle.frame_code.proofs.WayLaws.{futures-way}
 use Rattle.schedule_rule.specs.HeldNames.{PutsInto, StandsPutting, StandsDropping}
-use Rattle.schedule_core.specs.Runs.{IsTask, IsSameKind}
+use Rattle.schedule_core.specs.Runs.{IsTask, IsSameState}
 
 -- the instruction puts a future into the variable, or drops it
 abbrev pub Touches : ℕ → Instr → Type 0
@@ -71,7 +71,7 @@ touches-future p kind state at instr x formed (inr is) = let f : IsFormedInstr p
 pub record IsPast (p : Program) (x : ℕ) (future : Option ℕ) (b next : BodyOf ℕ) : Type 0 where
   pub way : BodyHasWay p next
   pub single : IsTask next
-  pub same : (a : BodyOf ℕ) → IsSameKind a b → IsSameKind a next
+  pub same : (a : BodyOf ℕ) → IsSameState a b → IsSameState a next
   pub names : (w : ℕ) → times w (option_to_list (unit_of b x)) + times w (names_of next) ≡ times w (option_to_list future) + times w (names_of b)
   pub count : length (option_to_list (unit_of b x)) + length (names_of next) ≡ length (option_to_list future) + length (names_of b)
 
@@ -128,7 +128,7 @@ module _ (p : Program) (words : ℕ → ℕ) (x : ℕ) (formed : IsWellFormed p)
           );
         }
       where
-        same-past : (a : BodyOf ℕ) → IsSameKind a (OfKind (frame_at p words)) → IsSameKind a (with_future x future (passed_on (OfKind (frame_at p words))))
+        same-past : (a : BodyOf ℕ) → IsSameState a (OfKind (frame_at p words)) → IsSameState a (with_future x future (passed_on (OfKind (frame_at p words))))
         same-past (OfKind q) is = is
         same-past (OfMembers units next) is = absurd is
 

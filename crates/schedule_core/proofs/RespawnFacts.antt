@@ -1,5 +1,5 @@
 -- A running task goes on by a next activation: what is asked for is met, and what is told follows.
-use Rattle.std.proofs.Common.{◌≡◌, ◌∙◌, inl, inr, ℕ, zero, suc, ◌+◌, ◌^◌, ◌<◌, ◌≤◌, ◌==◌, Bool, cond, Option, Some, None, List, [], ◌∷◌, ◌++◌, length, refl, sym, ap, subst, append_assoc, arith}
+use Rattle.std.proofs.Common.{◌≡◌, ◌∙◌, ℕ, zero, suc, ◌+◌, ◌^◌, ◌<◌, ◌≤◌, ◌==◌, Bool, cond, Option, Some, None, List, [], ◌∷◌, ◌++◌, length, refl, sym, ap, subst, append_assoc, arith}
 use Rattle.std.specs.Prelude.{IfSome, slice_get, slice_index}
 use Rattle.std.proofs.lemmas.Bool.{eq-eqb}
 use Rattle.std.proofs.lemmas.Option.{none-some, same_Some, slice_get_within}
@@ -49,16 +49,17 @@ use Rattle.step_table.proofs.LookupFacts.{run-there}
 use Rattle.schedule_core.specs.Making.{task_behind}
 use Rattle.schedule_core.specs.SeenTasks.{unit_behind}
 use Rattle.schedule_core.specs.NextNumbers.{IsNextUnit, HasNumber, MetLimitNext, SawBehind}
-use Rattle.schedule_core.specs.NextPlaces.{MayPlaceBehind, EntersAgain, PlacesAgain}
+use Rattle.schedule_core.specs.NextPlaces.{MayPlaceBehind, PlacesAgain}
 use Rattle.schedule_core.specs.References.{MayDropEach, DropsEach}
 use Rattle.schedule_core.specs.Respawning.{unit_next, AsksAgain, AsksOnNull, HasRespawned, IsLimited, limited}
-use Rattle.schedule_core.specs.Runs.{IsTask, IsSameKind, IsInStep}
+use Rattle.schedule_core.specs.Runs.{IsTask, IsSameState, IsInStep}
 use Rattle.schedule_core.specs.declared.making.Behind.{Behind}
 use Rattle.schedule_core.specs.declared.running.Running.{Running}
 use Rattle.schedule_core.proofs.ChangedRuns.{dropped-changed, first-changed}
+use Rattle.schedule_core.proofs.EachFacts.{grows-on, no-heads-none}
 use Rattle.schedule_core.proofs.Joining.{has-grown}
 use Rattle.schedule_core.proofs.LessParts.{less-append, less-same, less-long}
-use Rattle.schedule_core.proofs.Placing.{has-before}
+use Rattle.schedule_core.proofs.Placing.{drawn-later, enters-later, enters-more}
 
 -- the two counts of a unit in a list are one
 units-times : (u : ℕ) (l : List ℕ) → units.times u l ≡ times u l
@@ -70,7 +71,7 @@ pub parts-are : (given left whole : List ℕ) → AreParts given left whole → 
 parts-are given left whole parts w = omega (arith, parts w, units-times w given, units-times w left, units-times w whole)
 
 -- the frame that a task enters is that of a next activation
-pub next-entered : (p : Program) (target : ℕ) (a b c : BodyOf ℕ) → IsSameKind a b → c ≡ entered_held p target b → BodyHasWay p c → IsNextFrame p a c
+pub next-entered : (p : Program) (target : ℕ) (a b c : BodyOf ℕ) → IsSameState a b → c ≡ entered_held p target b → BodyHasWay p c → IsNextFrame p a c
 next-entered p target (OfKind q) (OfKind now) c same is way =
     subst (λ (x : BodyOf ℕ). IsNextFrame p (OfKind q) x) (sym is) (same.0, subst (BodyHasWay p) is way)
 next-entered p target (OfMembers us at) (OfMembers vs next) c same is way =
@@ -79,7 +80,7 @@ next-entered p target (OfKind q) (OfMembers vs next) c same is way = absurd same
 next-entered p target (OfMembers us at) (OfKind now) c same is way = absurd same
 
 -- and so is the frame as it stands, of a task
-pub next-stays : (p : Program) (a b : BodyOf ℕ) → IsSameKind a b → BodyHasWay p b → IsTask b → IsNextFrame p a b
+pub next-stays : (p : Program) (a b : BodyOf ℕ) → IsSameState a b → BodyHasWay p b → IsTask b → IsNextFrame p a b
 next-stays p (OfKind q) (OfKind now) same way single = (same.0, way)
 next-stays p (OfMembers us at) (OfMembers vs next) same way single = absurd single
 next-stays p (OfKind q) (OfMembers vs next) same way single = absurd same
@@ -152,12 +153,6 @@ near-each g v us sound few k u at =
 saw-more : (behind : Option Behind) (front steps : List (Addr × ℕ)) → SawBehind behind steps → SawBehind behind (front ++ steps)
 saw-more None front steps saw = tt
 saw-more (Some b) front steps saw = has-grown _ steps (front ++ steps) front refl saw
-
-enters-more : (u n : ℕ) (priority : Priority) (behind : Option Behind) (o : Option Entry) (front steps more : List (Addr × ℕ)) → EntersAgain u n priority behind o steps
-    → EntersAgain u n priority behind o (front ++ (steps ++ more))
-enters-more u n priority behind None front steps more enters = enters
-enters-more u n priority behind (Some e) front steps more (unit, number, inl none) = (unit, number, inl none)
-enters-more u n priority behind (Some e) front steps more (unit, number, inr t) = (unit, number, inr (t.0, t.1, has-grown _ (steps ++ more) (front ++ (steps ++ more)) front refl (has-before _ steps more t.2)))
 
 module _ (g : Setup) (x : Running) (wanted : Option ℕ) (number : ℕ) (behind : Option Behind) (base v : View) (in_step : IsInStep g x base) (has : HasNumber g x wanted number behind base v) where
   abbrev p : Program
@@ -281,18 +276,22 @@ module _ (g : Setup) (x : Running) (wanted : Option ℕ) (number : ℕ) (behind 
         pub gone-on : HasRespawned g x wanted priority base told e
         gone-on = record {
           number = number;
-          within = has.within;
           behind = behind;
           behind_is = has.behind_is;
-          steps = drops.seen.0 ++ (places.steps ++ has.steps);
-          since = drops.seen.1 ∙ ap (λ (l : List (Addr × ℕ)). drops.seen.0 ++ l) (places.since ∙ ap (λ (l : List (Addr × ℕ)). places.steps ++ l) has.since ∙ sym (append_assoc places.steps has.steps base.seen))
-              ∙ sym (append_assoc drops.seen.0 (places.steps ++ has.steps) base.seen);
+          placed = record {
+            within = has.within;
+            steps = drops.seen.0 ++ (places.steps ++ has.steps);
+            since = drops.seen.1 ∙ ap (λ (l : List (Addr × ℕ)). drops.seen.0 ++ l) (places.since ∙ ap (λ (l : List (Addr × ℕ)). places.steps ++ l) has.since ∙ sym (append_assoc places.steps has.steps base.seen))
+                ∙ sym (append_assoc drops.seen.0 (places.steps ++ has.steps) base.seen);
+            drawn = drawn-later number drops.seen.0 (places.steps ++ has.steps) (drawn-later number places.steps has.steps has.drawn);
+            enters = enters-later u number priority behind told drops.seen.0 (places.steps ++ has.steps) drops.elsewhere (enters-more u number priority behind told places.steps has.steps places.enters);
+          };
           saw = saw-more behind drops.seen.0 (places.steps ++ has.steps) (saw-more behind places.steps has.steps has.saw);
-          enters = enters-more u number priority behind told drops.seen.0 places.steps has.steps places.enters;
           facts = (
             places.facts.0 ++ has.facts.0,
             ap (λ (s : View). s.facts) drops.view_is ∙ places.facts.1 ∙ ap (λ (l : List Fact). places.facts.0 ++ l) has.facts.1 ∙ sym (append_assoc places.facts.0 has.facts.0 base.facts),
           );
+          settles = grows-on base.settles z.settles e.settles (places.settles.0, places.settles.1 ∙ ap (λ (s : View). places.settles.0 ++ s.settles) has.view_is) drops.settles;
           view_is = all ∙ (λ k. record base {
             runs = dropped-changed (is_run_at u) ask_again (λ r. refl) base.runs k;
             known = (sym all k).known;
@@ -390,7 +389,7 @@ opened-few g x base v s same w = omega (arith, s.spare.there w, ap (λ (l : List
 
 -- nothing is given up
 pub drops-none : (v : View) → DropsEach [] v v
-drops-none v = record { settles = ([], refl); seen = ([], refl); view_is = refl }
+drops-none v = record { settles = ([], refl); seen = ([], refl); elsewhere = no-heads-none; view_is = refl }
 
 -- what is behind no unit is behind nothing
 pub behind-none : (behind : Option Behind) → unit_behind behind ≡ None → behind ≡ None

@@ -1,5 +1,5 @@
 -- The record of the next root gets its number, is placed and named; or the limit is met.
-use Rattle.std.proofs.Common.{◌≡◌, ◌∙◌, inl, inr, ℕ, suc, ◌+◌, ◌<◌, Bool, true, cond, Option, Some, None, List, [], ◌∷◌, ◌++◌, map, length, refl, sym, ap, subst, append_assoc, arith}
+use Rattle.std.proofs.Common.{◌≡◌, ◌∙◌, ℕ, suc, ◌+◌, ◌<◌, Bool, true, cond, Option, Some, None, List, [], ◌∷◌, ◌++◌, map, length, refl, sym, ap, subst, append_assoc, arith}
 use Rattle.std.specs.Prelude.{slice_get, slice_index}
 use Rattle.std.specs.Option.{option_to_list}
 use Rattle.std.proofs.lemmas.Bool.{eq-eqb}
@@ -41,7 +41,7 @@ use Rattle.step_table.specs.declared.record_tokens.Future.{Future}
 use Rattle.step_table.specs.declared.record_tokens.Made.{Made}
 use Rattle.step_table.specs.declared.roots.RootWord.TheVariants as word
 use Rattle.schedule_core.specs.Hosting.{says_next}
-use Rattle.schedule_core.specs.Making.{Enters, IsReadyWith, MayFillNew, MayOffer, Offers, KnowsPredecessor, task_behind}
+use Rattle.schedule_core.specs.Making.{MayFillNew, MayOffer, Offers, KnowsPredecessor, task_behind}
 use Rattle.schedule_core.specs.NamedRoots.{SawLast}
 use Rattle.schedule_core.specs.Numbers.{GaveBack}
 use Rattle.schedule_core.specs.References.{HasEach}
@@ -53,7 +53,8 @@ use Rattle.schedule_core.specs.declared.hosting.RootTask.{RootTask}
 use Rattle.schedule_core.specs.declared.making.Behind.{Behind}
 use Rattle.schedule_core.proofs.ChangedRuns.{dropped-changed, first-changed}
 use Rattle.schedule_core.proofs.Offering.{first-kept}
-use Rattle.schedule_core.proofs.Placing.{enters-more, has-before}
+use Rattle.schedule_core.proofs.EachFacts.{no-heads-none, no-heads-on}
+use Rattle.schedule_core.proofs.Placing.{drawn-later, enters-later, enters-more, has-before}
 use Rattle.schedule_core.proofs.RootCalls.{is-root_call, passed-agrees}
 use Rattle.schedule_core.proofs.SpawnCalls.{seen-has, were-seen}
 use Rattle.schedule_core.proofs.SpawnFrames.{entry-names, some-present}
@@ -229,7 +230,7 @@ first-is-dropped u l = ap (λ (b : Bool). cond b l (u ∷ dropped (is_at u) l)) 
 
 module _ (g : Setup) (root : ℕ) (line : RootLine) (made : Made) (x : RootTask) (placement : Placement) (v : View) (m : MayPlaceRoot g root line made x placement v) (found n : ℕ)
     (sound : SoundView g (root_view g root line made x placement v m found n)) (is_new : IsNewNumber g.plan.limit n v) (future : Future) (entry : Option Entry) (mid : Pass)
-    (offers : Offers g made n x.behind placement (root_view g root line made x placement v m found n) (future, entry) (view mid)) where
+    (offers : Offers g made n line.priority x.behind placement (root_view g root line made x placement v m found n) (future, entry) (view mid)) where
   abbrev w : ℕ
   w = made.unit
 
@@ -267,14 +268,17 @@ module _ (g : Setup) (root : ℕ) (line : RootLine) (made : Made) (x : RootTask)
       runs = ap (λ (y : View). y.runs) offers.view_is ∙ ap (λ (a : PlacedFor). runs_past a v.runs) (ap (λ (y : Placement). y.asked) m.placement_is)
 
   -- and then it is
-  pub names-task : (new : Pass) → IsReadyWith line.priority x.behind entry → Names root (word.Record future) mid new → NamesTask g line.priority made x.behind placement.call v entry (view new)
-  names-task new ready names = record {
-    ready_with = ready;
+  pub names-task : (new : Pass) → n ≡ found + 1 → Names root (word.Record future) mid new → NamesTask g line.priority made x.behind placement.call v entry (view new)
+  names-task new is_next names = record {
     number = n;
-    within = is_new.within;
-    steps = (word_of_root root, names.found) ∷ offers.steps ++ (sum 0, found) ∷ [];
-    since = ap (λ (y : View). y.seen) whole ∙ ap (λ (l : List (Addr × ℕ)). (word_of_root root, names.found) ∷ l) (offers.since ∙ sym (append_assoc offers.steps ((sum 0, found) ∷ []) v.seen));
-    enters = later w n x.behind entry (word_of_root root, names.found) (offers.steps ++ (sum 0, found) ∷ []) (enters-more w n x.behind entry offers.steps ((sum 0, found) ∷ []) offers.enters);
+    placed = record {
+      within = is_new.within;
+      steps = (word_of_root root, names.found) ∷ offers.steps ++ (sum 0, found) ∷ [];
+      since = ap (λ (y : View). y.seen) whole ∙ ap (λ (l : List (Addr × ℕ)). (word_of_root root, names.found) ∷ l) (offers.since ∙ sym (append_assoc offers.steps ((sum 0, found) ∷ []) v.seen));
+      drawn = drawn-later n ((word_of_root root, names.found) ∷ offers.steps) ((sum 0, found) ∷ []) (found, is_next, (0, refl));
+      enters = enters-later w n line.priority x.behind entry ((word_of_root root, names.found) ∷ []) (offers.steps ++ (sum 0, found) ∷ []) (no-heads-on (word_of_root root) names.found [] (λ u e. cc) no-heads-none)
+          (enters-more w n line.priority x.behind entry offers.steps ((sum 0, found) ∷ []) offers.enters);
+    };
     facts = (
       offers.facts.0 ++ IsAccepted n placement.call ∷ [],
       ap (λ (y : View). y.facts) whole ∙ offers.facts.1 ∙ sym (append_assoc offers.facts.0 (IsAccepted n placement.call ∷ []) v.facts),
@@ -319,19 +323,14 @@ module _ (g : Setup) (root : ℕ) (line : RootLine) (made : Made) (x : RootTask)
       }
       whole = named-so ∙ (λ k. saw (word_of_root root) names.found (put_root (Record w) (offers.view_is k)))
 
-      later : (unit number : ℕ) (behind : Option Behind) (told : Option Entry) (step : Addr × ℕ) (steps : List (Addr × ℕ)) → Enters unit number behind told steps → Enters unit number behind told (step ∷ steps)
-      later unit number behind None step steps enters = enters
-      later unit number behind (Some e) step steps (unit_is, number_is, inl none) = (unit_is, number_is, inl none)
-      later unit number behind (Some e) step steps (unit_is, number_is, inr (b, is, has)) = (unit_is, number_is, inr (b, is, (suc has.0, has.1)))
-
 -- the same, of the pass behind the draw
 module _ (g : Setup) (root : ℕ) (line : RootLine) (made it : Made) (x : RootTask) (placement : Placement) (n : ℕ) (v w : View) (m : MayPlaceRoot g root line made x placement v) (is : it ≡ made)
-    (d : DrewNumber g.plan.limit n v w (drew_for_root made.unit root placement.call n v)) (sound : SoundView g w) (told : Future × Option Entry) (mid : Pass) (offers : Offers g it n x.behind placement w told (view mid)) where
-  there : Offers g made n x.behind placement (root_view g root line made x placement v m d.found n) told (view mid)
-  there = subst (λ (y : View). Offers g made n x.behind placement y told (view mid)) d.view_is (subst (λ (y : Made). Offers g y n x.behind placement w told (view mid)) is offers)
+    (d : DrewNumber g.plan.limit n v w (drew_for_root made.unit root placement.call n v)) (sound : SoundView g w) (told : Future × Option Entry) (mid : Pass) (offers : Offers g it n line.priority x.behind placement w told (view mid)) where
+  there : Offers g made n line.priority x.behind placement (root_view g root line made x placement v m d.found n) told (view mid)
+  there = subst (λ (y : View). Offers g made n line.priority x.behind placement y told (view mid)) d.view_is (subst (λ (y : Made). Offers g y n line.priority x.behind placement w told (view mid)) is offers)
 
   pub may-say_drawn : MayAsk g root (word.Record told.0) (view mid)
   may-say_drawn = may-say_record g root line made x placement v m d.found n (subst (SoundView g) d.view_is sound) d.is_new told.0 told.1 mid there
 
-  pub names-drawn : (new : Pass) → IsReadyWith line.priority x.behind told.1 → Names root (word.Record told.0) mid new → NamesTask g line.priority made x.behind placement.call v told.1 (view new)
-  names-drawn new ready names = names-task g root line made x placement v m d.found n (subst (SoundView g) d.view_is sound) d.is_new told.0 told.1 mid there new ready names
+  pub names-drawn : (new : Pass) → Names root (word.Record told.0) mid new → NamesTask g line.priority made x.behind placement.call v told.1 (view new)
+  names-drawn new names = names-task g root line made x placement v m d.found n (subst (SoundView g) d.view_is sound) d.is_new told.0 told.1 mid there new d.is_next names

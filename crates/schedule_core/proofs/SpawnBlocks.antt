@@ -1,30 +1,25 @@
 -- A spawn from its request on: the first frame is made once the block is there.
-use Rattle.std.proofs.Common.{◌≡◌, ◌∙◌, ℕ, ◌+◌, ◌^◌, ◌<◌, Option, Some, None, List, ◌∷◌, map, refl, sym, ap, subst, arith}
+use Rattle.std.proofs.Common.{◌≡◌, ◌∙◌, ℕ, ◌+◌, ◌^◌, ◌<◌, Option, Some, None, List, map, refl, sym, ap, subst, arith}
 use Rattle.std.specs.Prelude.{IfSome}
 use Rattle.record_core.specs.Counting.{At, Has}
 use Rattle.task_syntax.specs.Form.{IsWellFormed}
 use Rattle.task_syntax.specs.Valid.{IsValid}
 use Rattle.task_syntax.specs.declared.program.Program.{Program}
+use Rattle.task_meaning.specs.Worths.{Accepted}
 use Rattle.frame_code.specs.Entries.{future_of, number_of, AgreesWith, IsEntryOf, MayEnterWith, Passes}
 use Rattle.frame_code.specs.Frames.{IsFrame}
 use Rattle.frame_code.specs.Units.{named_in}
 use Rattle.frame_code.specs.Words.{body_of}
 use Rattle.frame_code.specs.declared.act.SpawnRequest.{SpawnRequest}
 use Rattle.frame_code.specs.declared.entries.Passed.{Passed}
-use Rattle.table_core.specs.Pool.{superblock_of}
-use Rattle.table_core.specs.Views.{place}
-use Rattle.table_core.specs.WaitViews.{is_run_at}
 use Rattle.table_core.specs.declared.setup.Setup.{Setup}
 use Rattle.table_core.specs.declared.view.View.{View}
 use Rattle.table_core.proofs.ReferenceBound.{units-few}
-use Rattle.schedule_rule.specs.DrawViews.{changed}
-use Rattle.schedule_rule.specs.LifeViews.{with_words}
 use Rattle.schedule_rule.specs.PlacingViews.{WasSeenAs}
 use Rattle.memory_pool.specs.Answers.{Refuses}
 use Rattle.step_table.specs.declared.tokens.Block.{Block}
 use Rattle.schedule_core.specs.Making.{task_behind}
-use Rattle.schedule_core.specs.NewTasks.{Makes, Wants, kind_class}
-use Rattle.schedule_core.specs.PastFrames.{past_words}
+use Rattle.schedule_core.specs.NewTasks.{GetsTask, Makes, Wants, kind_class}
 use Rattle.schedule_core.specs.Runs.{IsInStep}
 use Rattle.schedule_core.specs.Spawning.{MaySpawn, MaySpawnBlock, Spawns, named_if}
 use Rattle.schedule_core.specs.declared.answers.Spawned.{Spawned}
@@ -107,7 +102,6 @@ module _ (g : Setup) (x : Running) (request : SpawnRequest) (v : View) (q : Prog
   pub made-spawned : (told : Spawned) (after : View) → Makes g x (new_for request passed wanted new) v told after → Spawns g x request v told after
   made-spawned (spawned.Future future entry) after m = record {
     number = m.number;
-    within = m.within;
     given = passed;
     passes = its_passes;
     call = record { kind = request.kind; numbers = map number_of passed; futures = m.call_is.0 };
@@ -118,26 +112,7 @@ module _ (g : Setup) (x : Running) (request : SpawnRequest) (v : View) (q : Prog
     waits_for = subst (λ (o : Option ℕ). WasSeenAs after o (task_behind m.behind)) its_wanted m.behind_seen;
     behind = m.behind;
     behind_is = m.behind_is ∙ its_wanted;
-    steps = m.steps;
-    since = m.since;
-    enters = m.enters;
-    ready_with = m.ready_with;
-    stays_open = m.stays_open;
-    sees = m.sees;
-    facts = m.facts;
-    view_is = m.view_is ∙ (λ k. record v {
-      futures = future.unit ∷ v.futures;
-      runs = changed (is_run_at x.started.unit) (with_words (past_words g.checked x.frame.items request.to future.unit)) v.runs;
-      calls = (m.number, m.call_is.2 k) ∷ v.calls;
-      wins = place (superblock_of g.plan future.unit) (kind_class g.checked request.kind) ∷ v.wins;
-      may_draw = 0;
-      looks = after.looks;
-      known = after.known;
-      sights = after.sights;
-      facts = after.facts;
-      tries = after.tries;
-      seen = after.seen;
-    });
+    gets = subst (λ (a : Accepted). GetsTask g x request.to (kind_class g.checked request.kind) request.priority m.number a m.behind v future entry after) m.call_is.2 m.gets;
   }
   made-spawned spawned.Null after m = m
   made-spawned spawned.Over after m = m
@@ -158,8 +133,8 @@ refused-in-step g class x old new s refuses = subst (IsInStep g x) (sym refuses.
   spare = record { there = s.spare.there; bag = s.spare.bag };
 })
 
--- what was refused to it says nothing of its frame
-pub answered-in-step : (g : Setup) (x y : Running) (v : View) → y ≡ record x { refused = y.refused } → IsInStep g x v → IsInStep g y v
+-- what was answered to it says nothing of its frame
+pub answered-in-step : (g : Setup) (x y : Running) (v : View) → y ≡ record x { refused = y.refused; made = y.made } → IsInStep g x v → IsInStep g y v
 answered-in-step g x y v is s = subst (λ (z : Running). IsInStep g z v) (sym is) (record {
   run = s.run;
   at = s.at;

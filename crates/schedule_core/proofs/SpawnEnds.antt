@@ -27,18 +27,18 @@ use Rattle.step_table.specs.PlacingSteps.{Placement, PlacedFor, runs_past}
 use Rattle.step_table.specs.declared.record_tokens.Future.{Future}
 use Rattle.step_table.specs.declared.record_tokens.Made.{Made}
 use Rattle.schedule_core.specs.Begins.{MetLimit}
-use Rattle.schedule_core.specs.Making.{Enters, IsReadyWith, Offers, WaitsOpen, task_behind}
+use Rattle.schedule_core.specs.Making.{Offers, PlacesNumber, task_behind}
 use Rattle.schedule_core.specs.Numbers.{GaveBack}
 use Rattle.schedule_core.specs.PastFrames.{past_words}
-use Rattle.schedule_core.specs.Runs.{IsInStep, IsSameKind}
+use Rattle.schedule_core.specs.Runs.{IsInStep, IsSameState}
 use Rattle.schedule_core.specs.SeenTasks.{unit_behind, task_seen}
-use Rattle.schedule_core.specs.NewTasks.{IsMaking, Wants, MayPlaceTask, HasMade, asking_of, call_made, class_given}
+use Rattle.schedule_core.specs.NewTasks.{GetsTask, IsMaking, Wants, MayPlaceTask, HasMade, asking_of, call_made, class_given}
 use Rattle.schedule_core.specs.declared.making.Behind.{Behind}
 use Rattle.schedule_core.specs.declared.running.Running.{Running}
 use Rattle.schedule_core.specs.declared.new_tasks.NewTask.{NewTask}
 use Rattle.schedule_core.proofs.ChangedRuns.{dropped-changed, changed-again}
 use Rattle.schedule_core.proofs.PastFrames.{past-frame}
-use Rattle.schedule_core.proofs.Placing.{has-before, enters-more, waits-more}
+use Rattle.schedule_core.proofs.Placing.{drawn-later, has-before, enters-more}
 use Rattle.schedule_core.proofs.AskingActs.{passes-on}
 use Rattle.schedule_core.proofs.GivenCalls.{call-behind, call-over}
 use Rattle.schedule_core.proofs.SpawnCalls.{seen-has}
@@ -110,7 +110,7 @@ met-back g x class base made v new m gave = record {
     })
 
 -- a frame past its act is of its own kind
-past-kind : (b : BodyOf ℕ) (to : ℕ) (unit : Option ℕ) → IsSameKind (with_future to unit (passed_on b)) b
+past-kind : (b : BodyOf ℕ) (to : ℕ) (unit : Option ℕ) → IsSameState (with_future to unit (passed_on b)) b
 past-kind (OfKind q) to unit = (refl, refl)
 past-kind (OfMembers units next) to unit = (refl, refl)
 
@@ -146,7 +146,7 @@ module _ (g : Setup) (x : Running) (made : Made) (new : NewTask) (behind : Optio
   abbrev call : Accepted
   call = call_made new.given behind v.sights
 
-  module _ (offers : Offers g made n behind placement drew (future, entry) after) where
+  module _ (offers : Offers g made n new.priority behind placement drew (future, entry) after) where
     offered : after ≡ record base {
       made = dropped (is_made_at u) (changed (is_made_at u) (give_number n) (new_made (block u class true) ∷ base.made));
       runs = runs_past placement.asked (changed (is_run_at w) ask (changed (is_run_at w) (with_words x.frame.items) base.runs));
@@ -235,54 +235,63 @@ module _ (g : Setup) (x : Running) (made : Made) (new : NewTask) (behind : Optio
     abbrev drew_steps : List (Addr × ℕ)
     drew_steps = (sum 0, found) ∷ making.seen.0
 
-    pub has-made : (1 ≤ n) × (n ≤ g.plan.limit) → IsReadyWith new.priority behind entry → HasMade g x new base future entry after
-    has-made within ready = record {
+    pub has-made : (1 ≤ n) × (n ≤ g.plan.limit) → n ≡ found + 1 → HasMade g x new base future entry after
+    has-made within is_next = record {
       number = n;
-      within = within;
       behind = behind;
       behind_is = m.behind_is;
       behind_seen = behind_seen;
       call = call;
       call_is = call-over v after new.given behind m.seen (λ y has. still y (wants.named has.0 y has.1));
       after_is = call-behind g.checked new.given new.behind new.first.items behind v.sights wants.begins m.behind_is m.behind_seen;
-      steps = offers.steps ++ drew_steps;
-      since = offers.since ∙ ap (λ (l : List (Addr × ℕ)). offers.steps ++ (sum 0, found) ∷ l) making.seen.1 ∙ sym (append_assoc offers.steps drew_steps base.seen);
-      enters = subst (λ (y : ℕ). Enters y n behind entry (offers.steps ++ drew_steps)) (sym offers.future_is) (enters-more u n behind entry offers.steps drew_steps offers.enters);
-      ready_with = ready;
-      stays_open = subst (λ (y : ℕ). WaitsOpen y behind entry (offers.steps ++ drew_steps)) (sym offers.future_is) (waits-more u behind entry offers.steps drew_steps offers.waits);
-      sees = subst (λ (y : ℕ). Has (SawTask y n) after.sights) (sym offers.future_is) offers.sees;
-      facts = (
-        offers.facts.0 ++ (IsAccepted n placement.call ∷ making.facts.0),
-        offers.facts.1 ∙ ap (λ l. offers.facts.0 ++ IsAccepted n placement.call ∷ l) making.facts.1 ∙ sym (append_assoc offers.facts.0 (IsAccepted n placement.call ∷ making.facts.0) base.facts),
-      );
-      view_is = by-unit ∙ (λ k. record base {
-        futures = sym offers.future_is k ∷ base.futures;
-        runs = changed (is_run_at w) (with_words (past_words g.checked x.frame.items new.to (sym offers.future_is k))) base.runs;
-        calls = (n, call) ∷ base.calls;
-        wins = place (superblock_of g.plan (sym offers.future_is k)) class ∷ base.wins;
-        may_draw = 0;
-        looks = after.looks;
-        known = after.known;
-        sights = after.sights;
-        facts = after.facts;
-        tries = after.tries;
-        seen = after.seen;
-      });
+      gets = gets;
     }
+      where
+        placed : PlacesNumber g.plan.limit u n new.priority behind entry base after
+        placed = record {
+          within = within;
+          steps = offers.steps ++ drew_steps;
+          since = offers.since ∙ ap (λ (l : List (Addr × ℕ)). offers.steps ++ (sum 0, found) ∷ l) making.seen.1 ∙ sym (append_assoc offers.steps drew_steps base.seen);
+          drawn = drawn-later n offers.steps drew_steps (found, is_next, (0, refl));
+          enters = enters-more u n new.priority behind entry offers.steps drew_steps offers.enters;
+        }
+
+        gets : GetsTask g x new.to class new.priority n call behind base future entry after
+        gets = record {
+          placed = subst (λ (y : ℕ). PlacesNumber g.plan.limit y n new.priority behind entry base after) (sym offers.future_is) placed;
+          sees = subst (λ (y : ℕ). Has (SawTask y n) after.sights) (sym offers.future_is) offers.sees;
+          facts = (
+            offers.facts.0 ++ (IsAccepted n placement.call ∷ making.facts.0),
+            offers.facts.1 ∙ ap (λ l. offers.facts.0 ++ IsAccepted n placement.call ∷ l) making.facts.1 ∙ sym (append_assoc offers.facts.0 (IsAccepted n placement.call ∷ making.facts.0) base.facts),
+          );
+          view_is = by-unit ∙ (λ k. record base {
+            futures = sym offers.future_is k ∷ base.futures;
+            runs = changed (is_run_at w) (with_words (past_words g.checked x.frame.items new.to (sym offers.future_is k))) base.runs;
+            calls = (n, call) ∷ base.calls;
+            wins = place (superblock_of g.plan (sym offers.future_is k)) class ∷ base.wins;
+            may_draw = 0;
+            looks = after.looks;
+            known = after.known;
+            sights = after.sights;
+            facts = after.facts;
+            tries = after.tries;
+            seen = after.seen;
+          });
+        }
 
     pub made-in-step : IsInStep g x after
     made-in-step = in-step-moved g x past base after wants.in_step (ap (λ (y : View). y.runs) by-unit) (λ y. omega (arith, ap (λ (z : View). times y z.futures) by-unit))
-        (subst (λ (b : BodyOf ℕ). IsSameKind b (body_of g.checked x.frame.items)) (sym past_body) (past-kind (body_of g.checked x.frame.items) new.to (Some u)))
+        (subst (λ (b : BodyOf ℕ). IsSameState b (body_of g.checked x.frame.items)) (sym past_body) (past-kind (body_of g.checked x.frame.items) new.to (Some u)))
       where
         past_body : body_of g.checked past ≡ with_future new.to (Some u) (passed_on (body_of g.checked x.frame.items))
         past_body = (past-frame g.checked x.frame.items new.to u wants.formed wants.in_step.frame (passes-on g.checked new.to (body_of g.checked x.frame.items) wants.stands) wants.variable).1
 
 -- behind the offer the task is made, and its asker goes on
 pub makes-new : (g : Setup) (x : Running) (made it : Made) (new : NewTask) (behind : Option Behind) (placement : Placement) (n : ℕ) (v w after : View) (told : Future × Option Entry)
-    → MayPlaceTask g x made new behind placement v → it ≡ made → DrewNumber g.plan.limit n v w (drew_for_run made.unit x.started.unit x.task placement.call n v) → Offers g it n behind placement w told after → IsReadyWith new.priority behind told.1
+    → MayPlaceTask g x made new behind placement v → it ≡ made → DrewNumber g.plan.limit n v w (drew_for_run made.unit x.started.unit x.task placement.call n v) → Offers g it n new.priority behind placement w told after
     → (base : View) → Wants g x new base → IsMaking g x (class_given g.checked new.given) base made v → HasMade g x new base told.0 told.1 after × IsInStep g x after
-makes-new g x made it new behind placement n v w after told m is d offers ready base wants making =
-    (has-made g x made new behind placement v m d.found n base wants making told.0 told.1 after there d.is_new.within ready, made-in-step g x made new behind placement v m d.found n base wants making told.0 told.1 after there)
+makes-new g x made it new behind placement n v w after told m is d offers base wants making =
+    (has-made g x made new behind placement v m d.found n base wants making told.0 told.1 after there d.is_new.within d.is_next, made-in-step g x made new behind placement v m d.found n base wants making told.0 told.1 after there)
   where
-    there : Offers g made n behind placement (drew_view g x made new behind placement v m d.found n) told after
-    there = subst (λ (y : View). Offers g made n behind placement y told after) d.view_is (subst (λ (y : Made). Offers g y n behind placement w told after) is offers)
+    there : Offers g made n new.priority behind placement (drew_view g x made new behind placement v m d.found n) told after
+    there = subst (λ (y : View). Offers g made n new.priority behind placement y told after) d.view_is (subst (λ (y : Made). Offers g y n new.priority behind placement w told after) is offers)

@@ -33,7 +33,7 @@ use Rattle.step_table.specs.declared.record_tokens.Made.{Made}
 use Rattle.step_table.specs.declared.tokens.Block.{Block}
 use Rattle.step_table.proofs.LookupFacts.{run-there}
 use Rattle.schedule_core.specs.Begins.{HasBegun, MayMakeIn, MetLimit}
-use Rattle.schedule_core.specs.Runs.{IsInStep, IsSameKind}
+use Rattle.schedule_core.specs.Runs.{IsInStep, IsSameState}
 use Rattle.schedule_core.specs.NewTasks.{IsMaking, MayMakeInBlock, Wants, asking_of}
 use Rattle.schedule_core.specs.declared.running.Running.{Running}
 use Rattle.schedule_core.specs.declared.new_tasks.NewTask.{NewTask}
@@ -41,13 +41,13 @@ use Rattle.schedule_core.proofs.BagFacts.{bag-moved}
 use Rattle.schedule_core.proofs.ChangedRuns.{dropped-changed, first-changed}
 
 -- a frame is of its own kind
-pub kind-self : (b : BodyOf ℕ) → IsSameKind b b
+pub kind-self : (b : BodyOf ℕ) → IsSameState b b
 kind-self (OfKind q) = (refl, refl)
 kind-self (OfMembers units next) = (refl, refl)
 
 -- where the frame of the run is of the same kind and no reference is gone, the task is in step still
 pub in-step-moved : (g : Setup) (x : Running) (words : List ℕ) (old new : View) → IsInStep g x old → new.runs ≡ changed (is_run_at x.started.unit) (with_words words) old.runs
-    → ((w : ℕ) → times w old.futures ≤ times w new.futures) → IsSameKind (body_of g.checked words) (body_of g.checked x.frame.items) → IsInStep g x new
+    → ((w : ℕ) → times w old.futures ≤ times w new.futures) → IsSameState (body_of g.checked words) (body_of g.checked x.frame.items) → IsInStep g x new
 in-step-moved g x words old new s runs_is more same = record {
   run = with_words words s.run;
   at = record {
@@ -83,14 +83,14 @@ met-in-step g x class old new s met =
     in-step-moved g x x.frame.items old new s (ap (λ (v : View). v.runs) met.view_is) (λ w. omega (arith, ap (λ (v : View). times w v.futures) met.view_is)) (kind-self (body_of g.checked x.frame.items))
 
 -- a frame that stands where it asks has moved on from an earlier one of its task
-moved-frame : (p : Program) (to : ℕ) (words next : List ℕ) → StandsAsking p to (body_of p next) → IsSameKind (body_at p (slice_index words)) (body_of p next) → BodyHasWay p (body_of p next) → IsFrame p next
+moved-frame : (p : Program) (to : ℕ) (words next : List ℕ) → StandsAsking p to (body_of p next) → IsSameState (body_at p (slice_index words)) (body_of p next) → BodyHasWay p (body_of p next) → IsFrame p next
     → IsMovedFrame p words next
 moved-frame p to words next asks same way frame = by (is_aggregate (slice_index words 0)) refl (is_aggregate (slice_index next 0)) refl asks same way
   where
     body : List ℕ → Bool → BodyOf ℕ
     body l b = cond b (OfMembers (members_at (slice_index l)) (control_at (slice_index l 0))) (OfKind (frame_at p (slice_index l)))
 
-    by : (b : Bool) → is_aggregate (slice_index words 0) ≡ b → (d : Bool) → is_aggregate (slice_index next 0) ≡ d → StandsAsking p to (body next d) → IsSameKind (body words b) (body next d) → BodyHasWay p (body next d)
+    by : (b : Bool) → is_aggregate (slice_index words 0) ≡ b → (d : Bool) → is_aggregate (slice_index next 0) ≡ d → StandsAsking p to (body next d) → IsSameState (body words b) (body next d) → BodyHasWay p (body next d)
         → IsMovedFrame p words next
     by b e true e' asks' same' way' = absurd asks'
     by true e false e' asks' same' way' = absurd same'

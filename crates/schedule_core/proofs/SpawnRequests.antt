@@ -32,7 +32,7 @@ use Rattle.table_core.specs.declared.setup.Setup.{Setup}
 use Rattle.table_core.specs.declared.view.View.{View}
 use Rattle.schedule_rule.specs.Frames.{HoldsNames}
 use Rattle.schedule_rule.proofs.HeldNameFacts.{IsSpawnBy, spawn-by, spawns-pass, entered-hold, entries-hold}
-use Rattle.schedule_core.specs.Respawning.{MayName, AsksAgain}
+use Rattle.schedule_core.specs.Respawning.{IsBehindName, AsksAgain}
 use Rattle.schedule_core.specs.Spawning.{AsksFor, MaySpawn}
 use Rattle.schedule_core.specs.declared.running.Running.{Running}
 use Rattle.schedule_core.proofs.RespawnFacts.{member-name}
@@ -88,7 +88,7 @@ spawnable-in g x request v program same formed valid may = subst (λ (p : Progra
 
 -- the predecessor of a next activation is in a future variable
 again-name : (p : Program) (c : Columns) (request : RespawnRequest) (q : FrameOf ℕ) (kind : Kind) (instr : Instr) → slice_get p.kinds q.kind ≡ Some kind → (state : State) → IsFormedInstr p kind state q.at instr
-    → stop_at c instr q ≡ Some (act.Again request) → MayName p request.behind (OfKind q)
+    → stop_at c instr q ≡ Some (act.Again request) → IsBehindName p request.behind (OfKind q)
 again-name p c request q kind (Math op to left right) is_kind state formed e = absurd (no-trap (computed op (operand q.numbers left) (operand q.numbers right)) request e)
 again-name p c request q kind (Cell to column row) is_kind state formed e = absurd (no-trap (cell_at c column (operand q.numbers row)) request e)
 again-name p c request q kind (Spawn to callee arguments waits priority retry) is_kind state formed e = cc
@@ -99,11 +99,11 @@ again-name p c request q kind (Get to x) is_kind state formed e = cc
 again-name p c request q kind (Again target waits priority) is_kind state formed e =
     let made : RespawnRequest = record { target = target; behind = waits; priority = priority } in
     let same : made ≡ request = cc in
-    subst (λ (r : RespawnRequest). MayName p r.behind (OfKind q)) same (sort-if p kind q waits is_kind formed.1)
+    subst (λ (r : RespawnRequest). IsBehindName p r.behind (OfKind q)) same (sort-if p kind q waits is_kind formed.1)
 again-name p c request q kind (Done a) is_kind state formed e = cc
 again-name p c request q kind _ is_kind state formed e = cc
 
-pub asks-name : (p : Program) (c : Columns) (request : RespawnRequest) (b : BodyOf ℕ) → IsWellFormed p → AsksAgain p c request b → MayName p request.behind b
+pub asks-name : (p : Program) (c : Columns) (request : RespawnRequest) (b : BodyOf ℕ) → IsWellFormed p → AsksAgain p c request b → IsBehindName p request.behind b
 asks-name p c request (OfMembers us n) formed asks = member-name us n request asks
 asks-name p c request (OfKind q) formed (line, at, stops) =
     let its = line-of p q.kind q.state q.at line at in

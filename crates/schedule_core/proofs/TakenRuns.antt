@@ -47,7 +47,7 @@ use Rattle.step_table.proofs.RecordStepping.{fill-at}
 use Rattle.step_table.proofs.TakingStepping.{taken-known}
 use Rattle.schedule_core.specs.Bags.{IsSpare}
 use Rattle.schedule_core.specs.FrameWords.{KnowsFront, IsFrontOf}
-use Rattle.schedule_core.specs.Runs.{IsSameKind, IsInStep, HasNoNumber}
+use Rattle.schedule_core.specs.Runs.{IsSameState, IsInStep, HasNoNumber}
 use Rattle.schedule_core.specs.Entries.{FitsEntry, word_of}
 use Rattle.schedule_core.specs.References.{Grows}
 use Rattle.schedule_core.specs.Taking.{TookRecord, TakesRun, Takes, Passes, Sweeps, TakesSpilled, SawReady, SawNoneReady, SawSpill}
@@ -58,7 +58,7 @@ use Rattle.schedule_core.specs.declared.running.Running.{Running}
 use Rattle.schedule_core.proofs.LessFacts.{less-front}
 
 -- a frame is of its own kind
-pub same-self : (b : BodyOf ℕ) → IsSameKind b b
+pub same-self : (b : BodyOf ℕ) → IsSameState b b
 same-self (OfKind q) = (refl, refl)
 same-self (OfMembers units next) = (refl, refl)
 
@@ -143,7 +143,7 @@ module _ (g : Setup) (started : Started) (before v : View) (t : TookRecord g sta
     frame = subst (IsFrame p) (sym is) t.frame_is.formed;
     way = subst (BodyHasWay p) (sym body) t.frame_is.way;
     names = subst (λ (b : BodyOf ℕ). HoldsNames p b) (sym body) t.frame_is.names;
-    same = subst (IsSameKind (body_at p (slice_index t.words))) (sym body) (same-self (body_at p (slice_index t.words)));
+    same = subst (IsSameState (body_at p (slice_index t.words))) (sym body) (same-self (body_at p (slice_index t.words)));
     spare = subst (λ (s : Started). IsSpare p s.unit (named_in p x.frame.items) new) (sym started_is)
         (record {
           there = λ w. omega (arith, (spare-front x.frame.items is).there w, ap (λ (z : View). times w z.futures) sees);
@@ -193,9 +193,9 @@ front-names_few g started before v items t is = omega (arith, ap length (named-f
 
 -- the value that was made of what was read is the run that was taken
 pub takes-run : (g : Setup) (started : Started) (before v new : View) (t : TookRecord g started before v) (priority : Priority) (x : Running) → new ≡ record v { seen = new.seen } → Grows v.seen new.seen → x.started ≡ started
-    → x.task ≡ task_in (Some t.call) started.number → x.after ≡ after_in (Some t.call) → x.priority ≡ priority → x.refused ≡ None → x.frame.items ≡ front g.checked (slice_index t.words)
+    → x.task ≡ task_in (Some t.call) started.number → x.after ≡ after_in (Some t.call) → x.priority ≡ priority → x.refused ≡ None → x.made ≡ None → x.frame.items ≡ front g.checked (slice_index t.words)
     → TakesRun g started.unit started.number priority before x new
-takes-run g started before v new t priority x sees seen started_is task_is after_is priority_is refused_is is = record {
+takes-run g started before v new t priority x sees seen started_is task_is after_is priority_is refused_is made_is is = record {
   class = t.class;
   words = t.words;
   call = t.call;
@@ -207,6 +207,7 @@ takes-run g started before v new t priority x sees seen started_is task_is after
   after_is = after_is;
   priority_is = priority_is;
   refused_is = refused_is;
+  made_is = made_is;
   is_front = is;
   untaken = took-untaken g started before v t;
   sights = ([], ap (λ (w : View). w.sights) sees ∙ ap (λ (w : View). w.sights) t.view_is);
@@ -304,6 +305,7 @@ run-since g unit number priority old now new x so sights grows t = record {
   after_is = t.after_is;
   priority_is = t.priority_is;
   refused_is = t.refused_is;
+  made_is = t.made_is;
   is_front = t.is_front;
   untaken = subst (λ (v : View). HasNoNumber number v) so t.untaken;
   sights = grows-on old.sights now.sights new.sights sights t.sights;

@@ -44,9 +44,11 @@ WasRefused (ends.Trapped trap) x v = x.refused ≡ None
 WasRefused ends.RefusedNull x v = x.refused ≡ Some cut.Null
 WasRefused ends.RefusedLimit x v = (x.refused ≡ Some cut.Limit) × Has (record { asker = OfTask x.task; refusal = IsLimit }) v.answers
 
+-- No record was made for a task that its variable does not name.
 pub record MayComplete (g : Setup) (x : Running) (outcome : Outcome) (v : View) : Type 0 where
   pub in_step : IsInStep g x v
   pub refused : WasRefused outcome x v
+  pub unmade : x.made ≡ None
 
 -- The task is over with this outcome, and the list of its record is closed: its members are the chain. The references of its frame and
 -- the scheduler's own are given up, and so is what was answered to the task.

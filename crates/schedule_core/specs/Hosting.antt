@@ -1,5 +1,5 @@
 -- What the asking for the next root needs and tells.
-use Rattle.std.specs.Prelude.{◌≡◌, ℕ, ◌+◌, ◌<◌, Option, Some, None, List, [], ◌∷◌, ◌++◌, length, max, slice_get}
+use Rattle.std.specs.Prelude.{◌≡◌, ℕ, ◌+◌, ◌<◌, Option, Some, None, List, [], ◌∷◌, length, slice_get}
 use Rattle.record_core.specs.Counting.{At, Has}
 use Rattle.record_core.specs.RootEnds.{roots_named}
 use Rattle.task_syntax.specs.declared.program.Root.{Root as RootLine}
@@ -14,15 +14,14 @@ use Rattle.table_core.specs.Holdings.{RootSays, Record}
 use Rattle.table_core.specs.Holdings as says
 use Rattle.table_core.specs.Lists.{Each}
 use Rattle.table_core.specs.Pool.{superblock_of, IsBlock}
-use Rattle.table_core.specs.RecordViews.{asked_by, left_answers, turned}
+use Rattle.table_core.specs.RecordViews.{put_root}
 use Rattle.table_core.specs.Roots.{FirstMissing, HasRecord}
 use Rattle.table_core.specs.Views.{place, saw}
 use Rattle.table_core.specs.declared.setup.Setup.{Setup}
 use Rattle.table_core.specs.declared.view.View.{View}
-use Rattle.schedule_rule.specs.SoundViews.{IsUpTo}
 use Rattle.memory_pool.specs.Searches.{SawNoneBelow}
 use Rattle.schedule_core.specs.Begins.{SawLimit}
-use Rattle.schedule_core.specs.Making.{Enters, IsReadyWith}
+use Rattle.schedule_core.specs.Making.{PlacesNumber}
 use Rattle.schedule_core.specs.References.{Grows}
 use Rattle.schedule_core.specs.NewTasks.{kind_class}
 use Rattle.schedule_core.specs.declared.answers.HostSpawned.{HostSpawned}
@@ -42,14 +41,9 @@ pub record IsNextRoot (g : Setup) (root : ℕ) (line : RootLine) (asked : List R
 abbrev pub MayHostSpawn : Setup → ℕ → View → Type 0
 MayHostSpawn g root v = (line : RootLine) × (asked : List RootSays) × IsNextRoot g root line asked v
 
--- the next root is asked for, and this is said of it
+-- the next root is asked for, and this is said of it, by a pass that has no reference to give to the root's word
 abbrev pub says_next : RootSays → View → View
-says_next said v = record v {
-  turn = turned said v.turn;
-  asked = max v.asked (asked_by (turned said v.turn));
-  root_task = 0;
-  answers = left_answers v.answers;
-}
+says_next said v = record (put_root said v) { futures = v.futures; sights = v.sights }
 
 -- each root that the line names has a record
 abbrev pub HaveRecords : RootLine → List RootSays → Type 0
@@ -71,16 +65,12 @@ IsBehindRoot asked (Some r) (Some b) = At asked r (Record b.unit)
 pub record HasHosted (g : Setup) (line : RootLine) (asked : List RootSays) (old : View) (entry : Option Entry) (new : View) : Type 0 where
   pub unit : ℕ
   pub number : ℕ
-  pub within : IsUpTo g.plan.limit number
   pub is_block : IsBlock g.plan unit (kind_class g.checked line.kind)
   pub known : List (Option ℕ)
   pub behind : Option Behind
   pub behind_is : IsBehindRoot asked line.behind behind
-  pub steps : List (Addr × ℕ)
-  pub since : new.seen ≡ steps ++ old.seen
-  pub reads : Each (ReadsRoot asked known steps) (roots_named line)
-  pub enters : Enters unit number behind entry steps
-  pub ready_with : IsReadyWith line.priority behind entry
+  pub placed : PlacesNumber g.plan.limit unit number line.priority behind entry old new
+  pub reads : Each (ReadsRoot asked known placed.steps) (roots_named line)
   pub looks : Grows old.looks new.looks
   pub facts : Grows old.facts new.facts
   pub settles : Grows old.settles new.settles

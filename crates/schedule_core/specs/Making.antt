@@ -1,8 +1,9 @@
 -- What is needed to place a new record with its first frame, and what that leaves.
-use Rattle.std.specs.Prelude.{◌≡◌, ◌≢◌, ℕ, ◌*◌, ◌≤◌, ◌⊎◌, false, true, Option, Some, None, IfSome, List, ◌∷◌, ◌++◌, length, slice_index}
+use Rattle.std.specs.Prelude.{◌≡◌, ◌≢◌, ℕ, ◌+◌, ◌*◌, ◌≤◌, ◌⊎◌, false, true, Option, Some, None, List, ◌∷◌, ◌++◌, length, slice_index}
 use Rattle.record_core.specs.Counting.{Has, times, dropped}
 use Rattle.kt_words.specs.Capacity.{block_units}
 use Rattle.kt_words.specs.HeadWords.{closed_word}
+use Rattle.kt_words.specs.StateWords.{priority_of}
 use Rattle.task_syntax.specs.declared.program.Program.{Program}
 use Rattle.task_syntax.specs.declared.value.Priority.{Priority}
 use Rattle.task_meaning.specs.Worths.{Accepted}
@@ -11,7 +12,7 @@ use Rattle.frame_code.specs.Frames.{IsFrame}
 use Rattle.frame_code.specs.Names.{named}
 use Rattle.frame_code.specs.Words.{body_at}
 use Rattle.kt_words.specs.declared.plan.Plan.{Plan}
-use Rattle.table_core.specs.Addresses.{Addr, state, refs, head, task}
+use Rattle.table_core.specs.Addresses.{Addr, state, refs, head, task, sum}
 use Rattle.table_core.specs.Asking.{Drawn}
 use Rattle.table_core.specs.Holdings.{Made as MadeOf, Waiter, Sight, SawTask, seen_at}
 use Rattle.table_core.specs.Own.{known_in}
@@ -25,7 +26,8 @@ use Rattle.schedule_rule.specs.DrawViews.{changed}
 use Rattle.schedule_rule.specs.Frames.{HoldsNames, BagSound}
 use Rattle.schedule_rule.specs.LifeViews.{count_in}
 use Rattle.schedule_rule.specs.PlacingViews.{is_drawn, IsFirstFrame}
-use Rattle.schedule_rule.specs.SoundViews.{SoundView}
+use Rattle.schedule_rule.specs.SeeingViews.{IsWaitingWord}
+use Rattle.schedule_rule.specs.SoundViews.{IsUpTo, SoundView}
 use Rattle.step_table.specs.PlacingSteps.{Placement, runs_past, IsFor, placed_made, MayPlaceMade}
 use Rattle.step_table.specs.Lookups.{waiter_in}
 use Rattle.step_table.specs.RecordHands.{MadeAt, HasFuture}
@@ -33,6 +35,7 @@ use Rattle.step_table.specs.Passes.{view}
 use Rattle.step_table.specs.declared.pass.Pass.{Pass}
 use Rattle.step_table.specs.declared.record_tokens.Future.{Future}
 use Rattle.step_table.specs.declared.record_tokens.Made.{Made}
+use Rattle.schedule_core.specs.Entries.{priority_at}
 use Rattle.schedule_core.specs.FrameWords.{KnowsFrame}
 use Rattle.schedule_core.specs.References.{Grows, HasEach}
 use Rattle.schedule_core.specs.declared.making.Behind.{Behind}
@@ -118,15 +121,6 @@ MayPlaceNew g made number None x pass = MayPlaceMade g false made number x pass 
 MayPlaceNew g made number (Some b) x pass = MayPlaceMade g true made number x pass × (after_in (Some x.call) ≡ Some b.task)
     × HasFuture g.plan b.unit (placed_made true g.checked made number x (view pass)) × Has (SawTask b.unit b.task) (placed_made true g.checked made number x (view pass)).sights
 
--- The entry is given: the activation is behind no task, or this call found the predecessor's list closed. None is given: it waits.
-abbrev pub Enters : ℕ → ℕ → Option Behind → Option Entry → List (Addr × ℕ) → Type 0
-Enters unit number behind None steps = (b : Behind) × (behind ≡ Some b)
-Enters unit number behind (Some e) steps = (e.unit ≡ unit) × (e.number ≡ number) × ((behind ≡ None) ⊎ ((b : Behind) × (behind ≡ Some b) × Has (head b.unit, closed_word) steps))
-
--- what is behind no task is ready with this priority
-abbrev pub IsReadyWith : Priority → Option Behind → Option Entry → Type 0
-IsReadyWith priority behind told = behind ≡ None → IfSome told (λ e. e.priority ≡ priority)
-
 -- the list of the record at u was looked at in these steps, and never found closed
 abbrev pub FoundOpen : ℕ → List (Addr × ℕ) → Type 0
 FoundOpen u steps = ((word : ℕ) × Has (head u, word) steps) × ¬ Has (head u, closed_word) steps
@@ -139,14 +133,38 @@ pub record StaysOpen (unit u : ℕ) (steps : List (Addr × ℕ)) : Type 0 where
   pub parts : steps ≡ later ++ (state unit, found) ∷ before
   pub unclosed : FoundOpen u later
 
--- where no entry is given, the list of the predecessor stayed open
-abbrev pub WaitsOpen : ℕ → Option Behind → Option Entry → List (Addr × ℕ) → Type 0
-WaitsOpen unit behind told steps = IfSome behind (λ b. told ≡ None → StaysOpen unit b.unit steps)
+-- The list of the record at u was found closed in these steps. The record at the unit was found to wait there, under the number of the entry
+-- and with its priority.
+pub record FoundClosed (unit u : ℕ) (e : Entry) (steps : List (Addr × ℕ)) : Type 0 where
+  pub closed : Has (head u, closed_word) steps
+  pub was : ℕ
+  pub saw : Has (state unit, was) steps
+  pub waited : IsWaitingWord e.number was
+  pub priority_is : e.priority ≡ priority_at (priority_of was)
+
+-- What was placed at the unit is ready, and this is its entry: it is behind no task, and has this priority; or the list of its predecessor
+-- was found closed. Without an entry it waits: that list stayed open.
+abbrev pub Enters : (unit number : ℕ) → Priority → Option Behind → Option Entry → List (Addr × ℕ) → Type 0
+Enters unit number priority behind None steps = (b : Behind) × (behind ≡ Some b) × StaysOpen unit b.unit steps
+Enters unit number priority behind (Some e) steps = (e.unit ≡ unit) × (e.number ≡ number)
+    × (((behind ≡ None) × (e.priority ≡ priority)) ⊎ ((b : Behind) × (behind ≡ Some b) × FoundClosed unit b.unit e steps))
+
+-- one step found this many numbers drawn, and the number is the next one
+abbrev pub FoundDrawn : ℕ → List (Addr × ℕ) → Type 0
+FoundDrawn number steps = (found : ℕ) × (number ≡ found + 1) × Has (sum 0, found) steps
+
+-- The next number was drawn in this call, and is placed for the record at the unit.
+pub record PlacesNumber (limit unit number : ℕ) (priority : Priority) (behind : Option Behind) (told : Option Entry) (old new : View) : Type 0 where
+  pub within : IsUpTo limit number
+  pub steps : List (Addr × ℕ)
+  pub since : new.seen ≡ steps ++ old.seen
+  pub drawn : FoundDrawn number steps
+  pub enters : Enters unit number priority behind told steps
 
 -- The entry of the waiter at the unit, under its number: the list of the record at u was found closed. None is given: it never was.
-abbrev pub EntersClosed : ℕ → ℕ → View → Option Entry → List (Addr × ℕ) → Type 0
+abbrev pub EntersClosed : (unit u : ℕ) → View → Option Entry → List (Addr × ℕ) → Type 0
 EntersClosed unit u old None steps = FoundOpen u steps
-EntersClosed unit u old (Some e) steps = (e.unit ≡ unit) × ((w : Waiter) → waiter_in unit old.waiting ≡ Some w → e.number ≡ w.number) × Has (head u, closed_word) steps
+EntersClosed unit u old (Some e) steps = (e.unit ≡ unit) × ((w : Waiter) → waiter_in unit old.waiting ≡ Some w → e.number ≡ w.number) × FoundClosed unit u e steps
 
 -- The waiter at the unit is in no hand any more: it stands in the list of its predecessor, or this call found that closed, and an entry is
 -- given for it, which is ready.
@@ -160,12 +178,11 @@ pub record JoinsBehind (g : Setup) (unit : ℕ) (behind : Behind) (old : View) (
   pub view_is : new ≡ record old { waiting = dropped (is_waiter_at unit) old.waiting; facts = new.facts; sights = new.sights; tries = new.tries; seen = new.seen }
 
 -- the number is placed; the pass has a reference to the record, whose task it saw
-pub record PlacesNew (g : Setup) (made : Made) (number : ℕ) (behind : Option Behind) (x : Placement) (old : View) (told : Future × Option Entry) (new : View) : Type 0 where
+pub record PlacesNew (g : Setup) (made : Made) (number : ℕ) (priority : Priority) (behind : Option Behind) (x : Placement) (old : View) (told : Future × Option Entry) (new : View) : Type 0 where
   pub future_is : told.0.unit ≡ made.unit
   pub steps : List (Addr × ℕ)
   pub since : new.seen ≡ steps ++ old.seen
-  pub enters : Enters made.unit number behind told.1 steps
-  pub waits : WaitsOpen made.unit behind told.1 steps
+  pub enters : Enters made.unit number priority behind told.1 steps
   pub facts : Grows old.facts new.facts
   pub sees : Has (SawTask made.unit number) new.sights
   pub kept : (s : Sight) → Has s old.sights → 1 ≤ times (seen_at s) new.futures → Has s new.sights
@@ -188,12 +205,11 @@ pub record MayOffer (g : Setup) (made : Made) (number : ℕ) (behind : Option Be
   pub covers : BagSound g.checked (record { futures = made.unit ∷ v.futures; runs = runs_past x.asked v.runs })
 
 -- The record is placed under its number; the pass has one reference more, to it, and those of its frame are the record's.
-pub record Offers (g : Setup) (made : Made) (number : ℕ) (behind : Option Behind) (x : Placement) (old : View) (told : Future × Option Entry) (new : View) : Type 0 where
+pub record Offers (g : Setup) (made : Made) (number : ℕ) (priority : Priority) (behind : Option Behind) (x : Placement) (old : View) (told : Future × Option Entry) (new : View) : Type 0 where
   pub future_is : told.0.unit ≡ made.unit
   pub steps : List (Addr × ℕ)
   pub since : new.seen ≡ steps ++ old.seen
-  pub enters : Enters made.unit number behind told.1 steps
-  pub waits : WaitsOpen made.unit behind told.1 steps
+  pub enters : Enters made.unit number priority behind told.1 steps
   pub facts : Grows old.facts new.facts
   pub sees : Has (SawTask made.unit number) new.sights
   pub kept : (s : Sight) → Has s old.sights → 1 ≤ times (seen_at s) new.futures → Has s new.sights

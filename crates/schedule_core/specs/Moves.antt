@@ -78,10 +78,15 @@ pub record TakesNamed (g : Setup) (x : Running) (unit : ℕ) (old new : View) : 
 
 -- The running task stands where it puts a future into the variable. Besides what its runs need and what its frame names, the pass has a reference to
 -- the record at the unit.
-pub record MayName (g : Setup) (x : Running) (to unit : ℕ) (v : View) : Type 0 where
+pub record MayPut (g : Setup) (x : Running) (to unit : ℕ) (v : View) : Type 0 where
   pub in_step : IsInStep g x v
   pub puts : StandsPutting g.checked to (body_of g.checked x.frame.items)
   pub spare : IsSpare g.checked x.started.unit (unit ∷ named_in g.checked x.frame.items) v
+
+-- The record at the unit was made for what the running task asks for where it stands.
+pub record MayName (g : Setup) (x : Running) (to unit : ℕ) (v : View) : Type 0 where
+  pub made : x.made ≡ Some unit
+  pub may : MayPut g x to unit v
 
 -- the running task stands where one variable is to name the task that another names
 pub record MayCopy (g : Setup) (x : Running) (to source : ℕ) (v : View) : Type 0 where
@@ -121,9 +126,17 @@ unit_at g x variable = option_to_list (unit_in g.checked x.frame.items variable)
 abbrev pub set_past : Setup → Running → ℕ → Option ℕ → BodyOf ℕ
 set_past g x to unit = with_future to unit (passed_on (body_of g.checked x.frame.items))
 
+-- a future was put into the variable
+abbrev pub Puts : Setup → Running → ℕ → ℕ → View → Running → View → Type 0
+Puts g x to unit = GoesPast g x (set_past g x to (Some unit)) (unit ∷ []) [] (unit_at g x to)
+
+-- the same task, without a record that its variable does not name
+abbrev pub unmade : Running → Running
+unmade x = record x { made = None }
+
 -- what the three moves tell
 abbrev pub Names : Setup → Running → ℕ → ℕ → View → Running → View → Type 0
-Names g x to unit = GoesPast g x (set_past g x to (Some unit)) (unit ∷ []) [] (unit_at g x to)
+Names g x to unit = GoesPast g (unmade x) (set_past g x to (Some unit)) (unit ∷ []) [] (unit_at g x to)
 
 abbrev pub Copies : Setup → Running → ℕ → ℕ → View → Running → View → Type 0
 Copies g x to source = GoesPast g x (set_past g x to (unit_in g.checked x.frame.items source)) (unit_at g x source) (unit_at g x source) (unit_at g x to)

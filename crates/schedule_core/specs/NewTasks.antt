@@ -1,5 +1,5 @@
 -- What a running task asks for: a call with what is given to it, and its first frame. What it takes to make a record for it, and what is told then.
-use Rattle.std.specs.Prelude.{◌≡◌, true, ℕ, ◌+◌, ◌<◌, ◌≤◌, Option, Some, None, IfSome, List, ◌∷◌, ◌++◌, map, length, slice_get}
+use Rattle.std.specs.Prelude.{◌≡◌, true, ℕ, ◌+◌, ◌<◌, ◌≤◌, Option, Some, None, IfSome, List, ◌∷◌, map, length, slice_get}
 use Rattle.record_core.specs.Counting.{At, Has}
 use Rattle.record_core.specs.declared.rows.CutTag.{CutTag}
 use Rattle.record_core.specs.declared.rows.CutTag.TheVariants as cut
@@ -7,6 +7,7 @@ use Rattle.kt_words.specs.Capacity.{class_for}
 use Rattle.task_syntax.specs.Form.{IsWellFormed}
 use Rattle.task_syntax.specs.declared.program.Program.{Program}
 use Rattle.task_syntax.specs.declared.program.Sort.TheVariants.{Future as FutureSort}
+use Rattle.task_syntax.specs.declared.value.Priority.{Priority}
 use Rattle.task_meaning.specs.Frame.{variables_of}
 use Rattle.task_meaning.specs.Worths.{Accepted, OfCall, OfAll}
 use Rattle.ready_queues.specs.declared.entry.Entry.{Entry}
@@ -18,7 +19,7 @@ use Rattle.frame_code.specs.Units.{named_in}
 use Rattle.frame_code.specs.Words.{OfMembers, body_of}
 use Rattle.frame_code.specs.declared.entries.Passed.{Passed}
 use Rattle.frame_code.specs.declared.entries.Passed.TheVariants as passed
-use Rattle.table_core.specs.Addresses.{Addr, units_of}
+use Rattle.table_core.specs.Addresses.{units_of}
 use Rattle.table_core.specs.Asking.{OfTask}
 use Rattle.table_core.specs.Holdings.{Sight, SawTask}
 use Rattle.table_core.specs.Lists.{Each}
@@ -34,7 +35,6 @@ use Rattle.schedule_rule.specs.DrawViews.{changed}
 use Rattle.schedule_rule.specs.Frames.{HoldsNames}
 use Rattle.schedule_rule.specs.LifeViews.{with_words}
 use Rattle.schedule_rule.specs.PlacingViews.{WereSeenAs, WasSeenAs}
-use Rattle.schedule_rule.specs.SoundViews.{IsUpTo}
 use Rattle.memory_pool.specs.Answers.{Gives, Refuses}
 use Rattle.memory_pool.specs.Searches.{SeesMore}
 use Rattle.step_table.specs.DrawSteps.{Asking}
@@ -44,7 +44,7 @@ use Rattle.step_table.specs.declared.record_tokens.Future.{Future}
 use Rattle.step_table.specs.declared.record_tokens.Made.{Made}
 use Rattle.step_table.specs.declared.tokens.Block.{Block}
 use Rattle.schedule_core.specs.Begins.{MetLimit}
-use Rattle.schedule_core.specs.Making.{Enters, IsReadyWith, WaitsOpen, task_behind}
+use Rattle.schedule_core.specs.Making.{PlacesNumber, task_behind}
 use Rattle.schedule_core.specs.PastFrames.{past_words}
 use Rattle.schedule_core.specs.References.{Grows}
 use Rattle.schedule_core.specs.Runs.{IsInStep}
@@ -115,37 +115,36 @@ abbrev pub IsCallOver : View → Given → Option ℕ → Accepted → Type 0
 IsCallOver v (given.Call kind passed) waits call = (futures : List (Option ℕ)) × WereSeenAs v (map future_of passed) futures × (call ≡ OfCall (record { kind = kind; numbers = map number_of passed; futures = futures }) waits)
 IsCallOver v (given.Members units) waits call = (members : List ℕ) × WereSeenAs v (map Some units) (map Some members) × (call ≡ OfAll members)
 
--- The new task: it has the next number, and its call is what is asked for, over the tasks that were seen. The pass has one reference
--- more, to the new record, and the frame of the asker is past its act, where its variable names it.
+-- A running task has a new one: the number is placed for its record, by this call, which is behind this task or none. The pass has one
+-- reference more, to the record, and saw its task there. The frame of the asker is past its act, where its variable names the record.
+pub record GetsTask (g : Setup) (x : Running) (to class : ℕ) (priority : Priority) (number : ℕ) (call : Accepted) (behind : Option Behind) (old : View) (future : Future) (entry : Option Entry) (new : View) : Type 0 where
+  pub placed : PlacesNumber g.plan.limit future.unit number priority behind entry old new
+  pub sees : Has (SawTask future.unit number) new.sights
+  pub facts : Grows old.facts new.facts
+  pub view_is : new ≡ record old {
+    futures = future.unit ∷ old.futures;
+    runs = changed (is_run_at x.started.unit) (with_words (past_words g.checked x.frame.items to future.unit)) old.runs;
+    calls = (number, call) ∷ old.calls;
+    wins = place (superblock_of g.plan future.unit) class ∷ old.wins;
+    may_draw = 0;
+    looks = new.looks;
+    known = new.known;
+    sights = new.sights;
+    facts = new.facts;
+    tries = new.tries;
+    seen = new.seen;
+  }
+
+-- The new task is what is asked for, over the tasks that were seen.
 pub record HasMade (g : Setup) (x : Running) (new : NewTask) (old : View) (future : Future) (entry : Option Entry) (after : View) : Type 0 where
   pub number : ℕ
-  pub within : IsUpTo g.plan.limit number
   pub behind : Option Behind
   pub behind_is : unit_behind behind ≡ new.behind
   pub behind_seen : WasSeenAs after new.behind (task_behind behind)
   pub call : Accepted
   pub call_is : IsCallOver after new.given (task_behind behind) call
   pub after_is : task_behind behind ≡ after_in (Some call)
-  pub steps : List (Addr × ℕ)
-  pub since : after.seen ≡ steps ++ old.seen
-  pub enters : Enters future.unit number behind entry steps
-  pub ready_with : IsReadyWith new.priority behind entry
-  pub stays_open : WaitsOpen future.unit behind entry steps
-  pub sees : Has (SawTask future.unit number) after.sights
-  pub facts : Grows old.facts after.facts
-  pub view_is : after ≡ record old {
-    futures = future.unit ∷ old.futures;
-    runs = changed (is_run_at x.started.unit) (with_words (past_words g.checked x.frame.items new.to future.unit)) old.runs;
-    calls = (number, call) ∷ old.calls;
-    wins = place (superblock_of g.plan future.unit) (class_given g.checked new.given) ∷ old.wins;
-    may_draw = 0;
-    looks = after.looks;
-    known = after.known;
-    sights = after.sights;
-    facts = after.facts;
-    tries = after.tries;
-    seen = after.seen;
-  }
+  pub gets : GetsTask g x new.to (class_given g.checked new.given) new.priority number call behind old future entry after
 
 abbrev pub asking_of : Running → Asking
 asking_of x = record { asker = Some (OfTask x.task); move = Some (record { unit = x.started.unit; words = x.frame.items }) }
@@ -164,6 +163,12 @@ abbrev pub refusal_in : Spawned → Option CutTag
 refusal_in (spawned.Future future entry) = None
 refusal_in spawned.Null = Some cut.Null
 refusal_in spawned.Over = Some cut.Limit
+
+-- the unit of the record that was made, if one was
+abbrev pub made_in : Spawned → Option ℕ
+made_in (spawned.Future future entry) = Some future.unit
+made_in spawned.Null = None
+made_in spawned.Over = None
 
 -- how many references a pass counts that had so many before
 abbrev pub held_spawned : ℕ → Spawned → ℕ

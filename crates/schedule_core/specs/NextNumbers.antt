@@ -13,7 +13,7 @@ use Rattle.schedule_rule.specs.DrawViews.{permitted, asking_again, drawn_for}
 use Rattle.schedule_rule.specs.SoundViews.{IsUpTo, SoundView}
 use Rattle.step_table.specs.DrawSteps.{Asking}
 use Rattle.step_table.specs.RecordHands.{HasFuture}
-use Rattle.schedule_core.specs.Making.{KnowsPredecessor, task_behind}
+use Rattle.schedule_core.specs.Making.{FoundDrawn, KnowsPredecessor, task_behind}
 use Rattle.schedule_core.specs.References.{Grows}
 use Rattle.schedule_core.specs.Runs.{IsInStep}
 use Rattle.schedule_core.specs.SeenTasks.{unit_behind}
@@ -65,6 +65,7 @@ pub record HasNumber (g : Setup) (x : Running) (wanted : Option ℕ) (number : �
   pub accepted : Has (IsAccepted number (Respawn x.task (task_behind behind))) new.facts
   pub steps : List (Addr × ℕ)
   pub since : new.seen ≡ steps ++ old.seen
+  pub drawn : FoundDrawn number steps
   pub saw : SawBehind behind steps
   pub facts : Grows old.facts new.facts
   pub sound : SoundView g new

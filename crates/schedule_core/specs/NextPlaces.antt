@@ -1,15 +1,14 @@
 -- What is needed to place a running task's next activation with its frame, and what that leaves.
-use Rattle.std.specs.Prelude.{◌≡◌, ℕ, ◌*◌, ◌≤◌, ◌⊎◌, Option, Some, None, List, ◌++◌, length, slice_index}
+use Rattle.std.specs.Prelude.{◌≡◌, ℕ, ◌*◌, ◌≤◌, Option, List, ◌++◌, length, slice_index}
 use Rattle.record_core.specs.Counting.{Has, times, dropped}
 use Rattle.kt_words.specs.Capacity.{block_units}
-use Rattle.kt_words.specs.HeadWords.{closed_word}
 use Rattle.task_syntax.specs.declared.value.Priority.{Priority}
 use Rattle.task_meaning.specs.Worths.{Respawn}
 use Rattle.ready_queues.specs.declared.entry.Entry.{Entry}
 use Rattle.frame_code.specs.Frames.{IsFrame}
 use Rattle.frame_code.specs.Units.{named_in}
 use Rattle.frame_code.specs.Words.{body_at, body_of}
-use Rattle.table_core.specs.Addresses.{Addr, head}
+use Rattle.table_core.specs.Addresses.{Addr}
 use Rattle.table_core.specs.Asking.{OfTask}
 use Rattle.table_core.specs.Holdings.{Run}
 use Rattle.table_core.specs.Story.{IsAccepted}
@@ -22,7 +21,7 @@ use Rattle.schedule_rule.specs.LifeViews.{answers_left}
 use Rattle.schedule_rule.specs.PlacingViews.{less, is_drawn, IsNextFrame}
 use Rattle.step_table.specs.RecordHands.{RunAt}
 use Rattle.schedule_core.specs.Bags.{IsSpare}
-use Rattle.schedule_core.specs.Making.{KnowsPredecessor, task_behind}
+use Rattle.schedule_core.specs.Making.{Enters, KnowsPredecessor, task_behind}
 use Rattle.schedule_core.specs.References.{Grows}
 use Rattle.schedule_core.specs.declared.making.Behind.{Behind}
 
@@ -65,16 +64,11 @@ IsPlacedAgain g unit number words old new = (run : Run) → RunAt g.plan unit ol
   seen = new.seen;
 }
 
--- The entry is given: the activation is behind no task, and has this priority; or this call found the predecessor's list closed. None is
--- given: it waits in that list.
-abbrev pub EntersAgain : ℕ → ℕ → Priority → Option Behind → Option Entry → List (Addr × ℕ) → Type 0
-EntersAgain unit number priority behind None steps = (b : Behind) × (behind ≡ Some b)
-EntersAgain unit number priority behind (Some e) steps = (e.unit ≡ unit) × (e.number ≡ number)
-    × (((behind ≡ None) × (e.priority ≡ priority)) ⊎ ((b : Behind) × (behind ≡ Some b) × Has (head b.unit, closed_word) steps))
-
+-- besides, what is told of its entry, among the steps of the call
 pub record PlacesAgain (g : Setup) (unit number : ℕ) (priority : Priority) (behind : Option Behind) (words : List ℕ) (old : View) (told : Option Entry) (new : View) : Type 0 where
   pub steps : List (Addr × ℕ)
   pub since : new.seen ≡ steps ++ old.seen
-  pub enters : EntersAgain unit number priority behind told steps
+  pub enters : Enters unit number priority behind told steps
   pub facts : Grows old.facts new.facts
+  pub settles : Grows old.settles new.settles
   pub view_is : IsPlacedAgain g unit number words old new

@@ -1,8 +1,8 @@
 -- What the calls need and leave that take or give up the references of a list of units.
 use Rattle.std.specs.Prelude.{◌≡◌, ℕ, ◌<◌, ◌≤◌, List, ◌++◌, length}
-use Rattle.record_core.specs.Counting.{times}
+use Rattle.record_core.specs.Counting.{Has, times}
 use Rattle.kt_words.specs.declared.plan.Plan.{Plan}
-use Rattle.table_core.specs.Addresses.{units_of}
+use Rattle.table_core.specs.Addresses.{Addr, head, units_of}
 use Rattle.table_core.specs.Lists.{Each}
 use Rattle.table_core.specs.declared.setup.Setup.{Setup}
 use Rattle.table_core.specs.declared.view.View.{View}
@@ -32,9 +32,14 @@ pub record MayDropEach (g : Setup) (units : List ℕ) (v : View) : Type 0 where
   pub there : (w : ℕ) → times w units ≤ times w v.futures
   pub bag : BagSound g.checked (record { futures = less v.futures units; runs = v.runs })
 
--- The references are given up. What was seen of records without one goes, and the places of the blocks that were freed are settled
--- beside those that were before.
+-- none of these steps is on the head of a list
+abbrev pub NoHeads : List (Addr × ℕ) → Type 0
+NoHeads steps = (u word : ℕ) → ¬ Has (head u, word) steps
+
+-- The references are given up, without a look at a list. What was seen of records without one goes, and the places of the blocks that were
+-- freed are settled beside those that were before.
 pub record DropsEach (units : List ℕ) (old new : View) : Type 0 where
   pub settles : Grows old.settles new.settles
   pub seen : Grows old.seen new.seen
+  pub elsewhere : NoHeads seen.0
   pub view_is : new ≡ record old { futures = less old.futures units; sights = new.sights; settles = new.settles; seen = new.seen }

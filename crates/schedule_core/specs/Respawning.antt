@@ -1,5 +1,5 @@
 -- What a respawn and a retry need, and what they tell.
-use Rattle.std.specs.Prelude.{◌≡◌, ℕ, ◌-◌, ◌<◌, ◌⊎◌, true, cond, Option, Some, None, IfSome, List, ◌∷◌, ◌++◌, length, slice_get, slice_index}
+use Rattle.std.specs.Prelude.{◌≡◌, ℕ, ◌-◌, ◌<◌, ◌⊎◌, true, cond, Option, Some, None, IfSome, ◌∷◌, length, slice_get, slice_index}
 use Rattle.record_core.specs.Counting.{dropped}
 use Rattle.record_core.specs.declared.rows.CutTag.TheVariants as cut
 use Rattle.task_syntax.specs.declared.columns.Columns.{Columns}
@@ -20,16 +20,13 @@ use Rattle.frame_code.specs.declared.act.Act.TheVariants as act
 use Rattle.frame_code.specs.declared.act.AllRequest.{AllRequest}
 use Rattle.frame_code.specs.declared.act.RespawnRequest.{RespawnRequest}
 use Rattle.frame_code.specs.declared.act.SpawnRequest.{SpawnRequest}
-use Rattle.table_core.specs.Addresses.{Addr}
 use Rattle.table_core.specs.WaitViews.{is_run_at}
 use Rattle.table_core.specs.declared.setup.Setup.{Setup}
 use Rattle.table_core.specs.declared.view.View.{View}
 use Rattle.schedule_rule.specs.LifeViews.{answers_left}
 use Rattle.schedule_rule.specs.PlacingViews.{less}
-use Rattle.schedule_rule.specs.SoundViews.{IsUpTo}
-use Rattle.schedule_core.specs.Making.{task_behind}
+use Rattle.schedule_core.specs.Making.{PlacesNumber, task_behind}
 use Rattle.schedule_core.specs.NextNumbers.{HasNumber, MetLimitNext, SawBehind}
-use Rattle.schedule_core.specs.NextPlaces.{EntersAgain}
 use Rattle.schedule_core.specs.References.{Grows}
 use Rattle.schedule_core.specs.Runs.{IsInStep}
 use Rattle.schedule_core.specs.SeenTasks.{unit_behind}
@@ -47,34 +44,34 @@ unit_next (OfMembers units next) None = None
 unit_next (OfMembers units next) (Some position) = slice_get units position
 
 -- the variable is a future of the frame, or the position one of its members, if one is given
-abbrev pub MayName : Program → Option ℕ → BodyOf ℕ → Type 0
-MayName p x (OfKind q) = IfSome x (λ at. BodyHasSort p FutureSort at (OfKind q))
-MayName p x (OfMembers units next) = IfSome x (λ position. position < length units)
+abbrev pub IsBehindName : Program → Option ℕ → BodyOf ℕ → Type 0
+IsBehindName p x (OfKind q) = IfSome x (λ at. BodyHasSort p FutureSort at (OfKind q))
+IsBehindName p x (OfMembers units next) = IfSome x (λ position. position < length units)
 
 -- a task stands at its respawn; an aggregate asks to be behind its next member
 abbrev pub AsksAgain : Program → Columns → RespawnRequest → BodyOf ℕ → Type 0
 AsksAgain p c request (OfKind q) = StopsAt p c q (act.Again request)
 AsksAgain p c request (OfMembers units next) = member_act (slice_get units next) next ≡ act.Again request
 
--- a running task asks for its next activation where its frame stands, and nothing was refused to it
+-- A running task asks for its next activation where its frame stands. Nothing was refused to it, and no record was made that its variable
+-- does not name.
 pub record MayRespawn (g : Setup) (x : Running) (request : RespawnRequest) (v : View) : Type 0 where
   pub in_step : IsInStep g x v
   pub asks : AsksAgain g.checked g.columns request (body_of g.checked x.frame.items)
   pub unrefused : x.refused ≡ None
+  pub unmade : x.made ≡ None
 
 -- The task has a next activation, under the next number: behind the task of the record at this unit, or behind none. The pass runs it no
 -- more, and has none of the references that its frame named: those of the next activation's frame are the record's, and the others are
--- given up.
+-- given up; the places of blocks that came free by this are settled beside those that were before.
 pub record HasRespawned (g : Setup) (x : Running) (wanted : Option ℕ) (priority : Priority) (old : View) (told : Option Entry) (new : View) : Type 0 where
   pub number : ℕ
-  pub within : IsUpTo g.plan.limit number
   pub behind : Option Behind
   pub behind_is : unit_behind behind ≡ wanted
-  pub steps : List (Addr × ℕ)
-  pub since : new.seen ≡ steps ++ old.seen
-  pub saw : SawBehind behind steps
-  pub enters : EntersAgain x.started.unit number priority behind told steps
+  pub placed : PlacesNumber g.plan.limit x.started.unit number priority behind told old new
+  pub saw : SawBehind behind placed.steps
   pub facts : Grows old.facts new.facts
+  pub settles : Grows old.settles new.settles
   pub view_is : new ≡ record old {
     runs = dropped (is_run_at x.started.unit) old.runs;
     known = new.known;

@@ -12,7 +12,6 @@ use Rattle.ready_queues.specs.declared.entry.Entry.{Entry}
 use Rattle.frame_code.specs.Entries.{future_of, IsEntryOf}
 use Rattle.frame_code.specs.Frames.{IsFrame}
 use Rattle.frame_code.specs.Names.{present}
-use Rattle.table_core.specs.Addresses.{Addr}
 use Rattle.table_core.specs.Asking.{OfRoot}
 use Rattle.table_core.specs.Holdings.{RootSays, Record}
 use Rattle.table_core.specs.Holdings as says
@@ -23,7 +22,6 @@ use Rattle.table_core.specs.Views.{place, block}
 use Rattle.table_core.specs.declared.setup.Setup.{Setup}
 use Rattle.table_core.specs.declared.view.View.{View}
 use Rattle.schedule_rule.specs.DrawViews.{drew_for_root}
-use Rattle.schedule_rule.specs.SoundViews.{IsUpTo}
 use Rattle.memory_pool.specs.Answers.{Gives}
 use Rattle.memory_pool.specs.Searches.{SeesMore}
 use Rattle.step_table.specs.DrawSteps.{Asking}
@@ -34,7 +32,7 @@ use Rattle.step_table.specs.declared.record_tokens.Made.{Made}
 use Rattle.step_table.specs.declared.tokens.Block.{Block}
 use Rattle.schedule_core.specs.Begins.{HasBegun, SawLimit}
 use Rattle.schedule_core.specs.Hosting.{IsNextRoot, IsBehindRoot, HaveRecords, Hosts, says_next}
-use Rattle.schedule_core.specs.Making.{Enters, IsReadyWith}
+use Rattle.schedule_core.specs.Making.{PlacesNumber}
 use Rattle.schedule_core.specs.NamedRoots.{ArePassedAs, SawLast}
 use Rattle.schedule_core.specs.Numbers.{Numbers}
 use Rattle.schedule_core.specs.References.{Grows, HasEach}
@@ -87,11 +85,7 @@ pub record MayPlaceRoot (g : Setup) (root : ℕ) (line : RootLine) (made : Made)
 -- the number is placed, and the record's reference is in the root's word
 pub record NamesTask (g : Setup) (priority : Priority) (made : Made) (behind : Option Behind) (call : Accepted) (old : View) (entry : Option Entry) (new : View) : Type 0 where
   pub number : ℕ
-  pub within : IsUpTo g.plan.limit number
-  pub steps : List (Addr × ℕ)
-  pub since : new.seen ≡ steps ++ old.seen
-  pub enters : Enters made.unit number behind entry steps
-  pub ready_with : IsReadyWith priority behind entry
+  pub placed : PlacesNumber g.plan.limit made.unit number priority behind entry old new
   pub facts : Grows old.facts new.facts
   pub view_is : new ≡ record (says_next (Record made.unit) old) {
     made = dropped (is_made_at made.unit) old.made;

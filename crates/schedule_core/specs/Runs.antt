@@ -20,11 +20,11 @@ IsTask (OfKind q) = Unit {0}
 IsTask (OfMembers units next) = ⊥
 
 -- the second frame stands in the same state of the same kind; an aggregate's is the same
-abbrev pub IsSameKind : BodyOf ℕ → BodyOf ℕ → Type 0
-IsSameKind (OfKind q) (OfKind now) = (now.kind ≡ q.kind) × (now.state ≡ q.state)
-IsSameKind (OfMembers units next) (OfMembers same at) = (same ≡ units) × (at ≡ next)
-IsSameKind (OfKind q) (OfMembers same at) = ⊥
-IsSameKind (OfMembers units next) (OfKind now) = ⊥
+abbrev pub IsSameState : BodyOf ℕ → BodyOf ℕ → Type 0
+IsSameState (OfKind q) (OfKind now) = (now.kind ≡ q.kind) × (now.state ≡ q.state)
+IsSameState (OfMembers units next) (OfMembers same at) = (same ≡ units) × (at ≡ next)
+IsSameState (OfKind q) (OfMembers same at) = ⊥
+IsSameState (OfMembers units next) (OfKind now) = ⊥
 
 -- The value is a run of the pass that has asked for no number that is not placed. Its frame stands where a way arrives, in the state
 -- of the frame that the pass has of it. Each future that is held there names a record, and the pass has a reference for each future
@@ -39,7 +39,7 @@ pub record IsInStep (g : Setup) (x : Running) (v : View) : Type 0 where
   pub frame : IsFrame g.checked x.frame.items
   pub way : BodyHasWay g.checked (body_of g.checked x.frame.items)
   pub names : HoldsNames g.checked (body_of g.checked x.frame.items)
-  pub same : IsSameKind (body_at g.checked (slice_index run.words)) (body_of g.checked x.frame.items)
+  pub same : IsSameState (body_at g.checked (slice_index run.words)) (body_of g.checked x.frame.items)
   pub spare : IsSpare g.checked x.started.unit (named_in g.checked x.frame.items) v
 
 -- the pass has drawn no such number that is not placed, and taken none

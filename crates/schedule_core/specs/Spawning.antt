@@ -1,6 +1,5 @@
 -- What a spawn needs and tells.
-use Rattle.std.specs.Prelude.{◌≡◌, ℕ, ◌<◌, Option, Some, None, List, ◌∷◌, ◌++◌, map}
-use Rattle.record_core.specs.Counting.{Has}
+use Rattle.std.specs.Prelude.{◌≡◌, ℕ, ◌<◌, Option, Some, None, List, map}
 use Rattle.task_meaning.specs.Frame.{CallOf}
 use Rattle.task_meaning.specs.Worths.{OfCall}
 use Rattle.ready_queues.specs.declared.entry.Entry.{Entry}
@@ -14,27 +13,17 @@ use Rattle.frame_code.specs.declared.act.SpawnRequest.{SpawnRequest}
 use Rattle.frame_code.specs.declared.entries.Passed.{Passed}
 use Rattle.task_syntax.specs.declared.columns.Columns.{Columns}
 use Rattle.task_syntax.specs.declared.program.Program.{Program}
-use Rattle.table_core.specs.Addresses.{Addr, units_of}
-use Rattle.table_core.specs.Holdings.{SawTask}
+use Rattle.table_core.specs.Addresses.{units_of}
 use Rattle.table_core.specs.Lists.{Each}
-use Rattle.table_core.specs.Pool.{superblock_of}
-use Rattle.table_core.specs.Views.{place}
-use Rattle.table_core.specs.WaitViews.{is_run_at}
 use Rattle.table_core.specs.declared.setup.Setup.{Setup}
 use Rattle.table_core.specs.declared.view.View.{View}
-use Rattle.schedule_rule.specs.DrawViews.{changed}
-use Rattle.schedule_rule.specs.LifeViews.{with_words}
 use Rattle.schedule_rule.specs.PlacingViews.{WereSeenAs, WasSeenAs}
-use Rattle.schedule_rule.specs.SoundViews.{IsUpTo}
 use Rattle.memory_pool.specs.Answers.{Gives}
 use Rattle.memory_pool.specs.Searches.{SeesMore}
 use Rattle.step_table.specs.Passes.{block_of}
 use Rattle.step_table.specs.declared.record_tokens.Future.{Future}
 use Rattle.step_table.specs.declared.tokens.Block.{Block}
-use Rattle.schedule_core.specs.Making.{Enters, IsReadyWith, WaitsOpen}
-use Rattle.schedule_core.specs.NewTasks.{ComesOf, kind_class}
-use Rattle.schedule_core.specs.PastFrames.{past_words}
-use Rattle.schedule_core.specs.References.{Grows}
+use Rattle.schedule_core.specs.NewTasks.{ComesOf, GetsTask, kind_class}
 use Rattle.schedule_core.specs.Runs.{IsInStep}
 use Rattle.schedule_core.specs.SeenTasks.{unit_behind}
 use Rattle.schedule_core.specs.declared.answers.Spawned.{Spawned}
@@ -51,17 +40,16 @@ abbrev pub AsksFor : Program → Columns → Act → BodyOf ℕ → Type 0
 AsksFor p c asked (OfKind q) = StopsAt p c q asked
 AsksFor p c asked (OfMembers units next) = ⊥
 
--- A running task asks for a spawn where its frame stands.
+-- A running task asks for a spawn where its frame stands. It was not answered yet.
 pub record MaySpawn (g : Setup) (x : Running) (request : SpawnRequest) (v : View) : Type 0 where
   pub in_step : IsInStep g x v
   pub asks : AsksFor g.checked g.columns (act.Spawn request) (body_of g.checked x.frame.items)
   pub unrefused : x.refused ≡ None
+  pub unmade : x.made ≡ None
 
--- The new task: it has the next number, and its call is what the request asks for, over the tasks that were seen at the records of the
--- futures. The pass has one reference more, to the new record, and the frame of the spawner is past its act, where its variable names it.
+-- The call of the new task is what the request asks for, over the tasks that were seen at the records of the futures.
 pub record HasSpawned (g : Setup) (x : Running) (request : SpawnRequest) (old : View) (future : Future) (entry : Option Entry) (new : View) : Type 0 where
   pub number : ℕ
-  pub within : IsUpTo g.plan.limit number
   pub given : List Passed
   pub passes : Passes g.checked request x.frame.items given
   pub call : CallOf ℕ
@@ -72,26 +60,7 @@ pub record HasSpawned (g : Setup) (x : Running) (request : SpawnRequest) (old : 
   pub waits_for : WasSeenAs new (named_if g.checked x.frame.items request.behind) waits
   pub behind : Option Behind
   pub behind_is : unit_behind behind ≡ named_if g.checked x.frame.items request.behind
-  pub steps : List (Addr × ℕ)
-  pub since : new.seen ≡ steps ++ old.seen
-  pub enters : Enters future.unit number behind entry steps
-  pub ready_with : IsReadyWith request.priority behind entry
-  pub stays_open : WaitsOpen future.unit behind entry steps
-  pub sees : Has (SawTask future.unit number) new.sights
-  pub facts : Grows old.facts new.facts
-  pub view_is : new ≡ record old {
-    futures = future.unit ∷ old.futures;
-    runs = changed (is_run_at x.started.unit) (with_words (past_words g.checked x.frame.items request.to future.unit)) old.runs;
-    calls = (number, OfCall call waits) ∷ old.calls;
-    wins = place (superblock_of g.plan future.unit) (kind_class g.checked request.kind) ∷ old.wins;
-    may_draw = 0;
-    looks = new.looks;
-    known = new.known;
-    sights = new.sights;
-    facts = new.facts;
-    tries = new.tries;
-    seen = new.seen;
-  }
+  pub gets : GetsTask g x request.to (kind_class g.checked request.kind) request.priority number (OfCall call waits) behind old future entry new
 
 abbrev pub Spawns : Setup → Running → SpawnRequest → View → Spawned → View → Type 0
 Spawns g x request old = ComesOf g x (kind_class g.checked request.kind) (HasSpawned g x request old) old

@@ -1,79 +1,49 @@
 -- What is needed to ask for an aggregate, and what is told of it.
-use Rattle.std.specs.Prelude.{◌≡◌, ℕ, ◌<◌, Option, Some, None, List, ◌∷◌, ◌++◌, map, length, slice_get}
-use Rattle.record_core.specs.Counting.{Has}
+use Rattle.std.specs.Prelude.{◌≡◌, ℕ, ◌<◌, Option, Some, None, List, map, length, slice_get}
 use Rattle.task_meaning.specs.Worths.{OfAll}
 use Rattle.ready_queues.specs.declared.entry.Entry.{Entry}
 use Rattle.frame_code.specs.Setting.{unit_in}
 use Rattle.frame_code.specs.Words.{body_of}
 use Rattle.frame_code.specs.declared.act.Act.TheVariants as act
 use Rattle.frame_code.specs.declared.act.AllRequest.{AllRequest}
-use Rattle.table_core.specs.Addresses.{Addr, units_of}
-use Rattle.table_core.specs.Holdings.{SawTask}
+use Rattle.table_core.specs.Addresses.{units_of}
 use Rattle.table_core.specs.Lists.{Each}
-use Rattle.table_core.specs.Pool.{superblock_of}
-use Rattle.table_core.specs.Views.{place}
-use Rattle.table_core.specs.WaitViews.{is_run_at}
 use Rattle.table_core.specs.declared.setup.Setup.{Setup}
 use Rattle.table_core.specs.declared.view.View.{View}
-use Rattle.schedule_rule.specs.DrawViews.{changed}
-use Rattle.schedule_rule.specs.LifeViews.{with_words}
 use Rattle.schedule_rule.specs.PlacingViews.{WereSeenAs}
-use Rattle.schedule_rule.specs.SoundViews.{IsUpTo}
 use Rattle.memory_pool.specs.Answers.{Gives}
 use Rattle.memory_pool.specs.Searches.{SeesMore}
 use Rattle.step_table.specs.Passes.{block_of}
 use Rattle.step_table.specs.declared.record_tokens.Future.{Future}
 use Rattle.step_table.specs.declared.tokens.Block.{Block}
-use Rattle.schedule_core.specs.Making.{Enters, StaysOpen}
-use Rattle.schedule_core.specs.NewTasks.{ComesOf, group_class}
-use Rattle.schedule_core.specs.PastFrames.{past_words}
-use Rattle.schedule_core.specs.References.{Grows}
+use Rattle.schedule_core.specs.NewTasks.{ComesOf, GetsTask, group_class}
 use Rattle.schedule_core.specs.Runs.{IsInStep}
 use Rattle.schedule_core.specs.Spawning.{AsksFor}
 use Rattle.schedule_core.specs.declared.answers.Spawned.{Spawned}
 use Rattle.schedule_core.specs.declared.making.Behind.{Behind}
 use Rattle.schedule_core.specs.declared.running.Running.{Running}
 
--- A running task asks for an aggregate where its frame stands.
+-- A running task asks for an aggregate where its frame stands. It was not answered yet.
 pub record MaySpawnAll (g : Setup) (x : Running) (request : AllRequest) (v : View) : Type 0 where
   pub in_step : IsInStep g x v
   pub asks : AsksFor g.checked g.columns (act.All request) (body_of g.checked x.frame.items)
   pub unrefused : x.refused ≡ None
+  pub unmade : x.made ≡ None
 
 -- the units that the members name, in their order
 abbrev pub units_all : Setup → Running → AllRequest → List (Option ℕ)
 units_all g x request = map (unit_in g.checked x.frame.items) request.members
 
--- The new aggregate: it has the next number, and its members are the tasks that were seen at the records of the futures, in their order,
--- each as often as it is named. It is behind the first of them. The pass has one reference more, to the new record, and the frame of the
--- asker is past its act, where its variable names it.
+-- The members of the new aggregate are the tasks that were seen at the records of the futures, in their order, each as often as it is
+-- named. It is behind the first of them.
 pub record HasSpawnedAll (g : Setup) (x : Running) (request : AllRequest) (old : View) (future : Future) (entry : Option Entry) (new : View) : Type 0 where
   pub number : ℕ
-  pub within : IsUpTo g.plan.limit number
   pub members : List ℕ
   pub were_seen : WereSeenAs new (units_all g x request) (map Some members)
   pub behind : Behind
   pub first_is : slice_get (units_all g x request) 0 ≡ Some (Some behind.unit)
   pub waits_for : slice_get members 0 ≡ Some behind.task
-  pub steps : List (Addr × ℕ)
-  pub since : new.seen ≡ steps ++ old.seen
-  pub enters : Enters future.unit number (Some behind) entry steps
-  pub stays_open : entry ≡ None → StaysOpen future.unit behind.unit steps
-  pub sees : Has (SawTask future.unit number) new.sights
-  pub facts : Grows old.facts new.facts
-  pub view_is : new ≡ record old {
-    futures = future.unit ∷ old.futures;
-    runs = changed (is_run_at x.started.unit) (with_words (past_words g.checked x.frame.items request.to future.unit)) old.runs;
-    calls = (number, OfAll members) ∷ old.calls;
-    wins = place (superblock_of g.plan future.unit) (group_class (length request.members)) ∷ old.wins;
-    may_draw = 0;
-    looks = new.looks;
-    known = new.known;
-    sights = new.sights;
-    facts = new.facts;
-    tries = new.tries;
-    seen = new.seen;
-  }
+  pub gets : GetsTask g x request.to (group_class (length request.members)) request.priority number (OfAll members) (Some behind) old future entry new
 
 abbrev pub SpawnsAll : Setup → Running → AllRequest → View → Spawned → View → Type 0
 SpawnsAll g x request old = ComesOf g x (group_class (length request.members)) (HasSpawnedAll g x request old) old

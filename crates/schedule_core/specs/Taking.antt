@@ -55,6 +55,7 @@ pub record TakesRun (g : Setup) (unit number : ℕ) (priority : Priority) (old :
   pub after_is : x.after ≡ after_in (Some call)
   pub priority_is : x.priority ≡ priority
   pub refused_is : x.refused ≡ None
+  pub made_is : x.made ≡ None
   pub is_front : x.frame.items ≡ front g.checked (slice_index words)
   pub untaken : HasNoNumber number old
   pub sights : Grows old.sights new.sights

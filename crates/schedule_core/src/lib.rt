@@ -16,6 +16,7 @@ mod making;
 mod moves;
 mod named_roots;
 mod new_tasks;
+mod publishing;
 mod references;
 mod respawning;
 mod running;

@@ -6,7 +6,7 @@ ghost use Rattle.step_table.specs.PlacingSteps.{Placement};
 ghost use Rattle.wait_lists.specs.Joining.{MayJoin};
 ghost use Rattle.schedule_core.specs.Making.{MayWriteWords, WritesWords, MayWriteRows, WritesRows};
 ghost use Rattle.schedule_core.specs.Making.{task_behind, MayFillNew, FillsNew, JoinsBehind};
-ghost use Rattle.schedule_core.specs.Making.{MayPlaceNew, PlacesNew, IsReadyWith, MayOffer, Offers};
+ghost use Rattle.schedule_core.specs.Making.{MayPlaceNew, PlacesNew, MayOffer, Offers};
 
 use crate::entries::entry_of;
 use crate::frames::write_frame;
@@ -123,9 +123,8 @@ fn place(
     requires table { IsOf shared.now pass.old }
     requires may { MayPlaceNew shared.now.setup made number behind placement pass.old }
     ensures pass { IsSameWith (pass.old.held + 1) pass.old pass.new }
-    ensures placed { PlacesNew shared.now.setup made number behind placement
+    ensures placed { PlacesNew shared.now.setup made number priority behind placement
         (view pass.old) result (view pass.new) }
-    ensures ready { IsReadyWith priority behind result.1 }
 {
     let unit = made.unit();
     match behind {
@@ -161,9 +160,8 @@ pub(crate) fn offer(
     requires room { pass.old.held
         + length (named code.now (slice_index first.now.items)) ≤ 2 ^ 32 }
     ensures pass { IsSameWith (pass.old.held + 1) pass.old pass.new }
-    ensures offered { Offers shared.now.setup made number behind placement
+    ensures offered { Offers shared.now.setup made number priority behind placement
         (view pass.old) result (view pass.new) }
-    ensures ready { IsReadyWith priority behind result.1 }
 {
     let held = pass.held();
     fill_new(shared, code, pass, &made, number, task_of(behind), first);

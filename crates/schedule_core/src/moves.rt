@@ -7,8 +7,8 @@ ghost use Rattle.frame_code.specs.Told.{act_told};
 ghost use Rattle.step_table.specs.DrawSteps.{Asking, MaySeeDrawn};
 ghost use Rattle.step_table.specs.Passes.{view, plan, IsOf, IsSame, IsSameWith};
 ghost use Rattle.step_table.specs.Sound.{AreSound};
-ghost use Rattle.schedule_core.specs.Moves.{HasLoose, DropsLoose, MayName, MayCopy, MayLetGo, SeesFrame};
-ghost use Rattle.schedule_core.specs.Moves.{Names, Copies, LetsGo, RunsOn, TakesNamed, unit_at};
+ghost use Rattle.schedule_core.specs.Moves.{HasLoose, DropsLoose, MayPut, MayName, MayCopy, MayLetGo, SeesFrame};
+ghost use Rattle.schedule_core.specs.Moves.{Puts, Names, Copies, LetsGo, RunsOn, TakesNamed, unit_at};
 ghost use Rattle.schedule_core.specs.Runs.{IsInStep};
 
 use crate::references::drop_if;
@@ -45,9 +45,32 @@ fn drop_loose(shared: &Shared, pass: &mut Pass, running: &Running, unit: Option<
     drop_if(shared, pass, unit);
 }
 
-// The variable names the record at the unit, to which the pass has a reference beside those of the
-// frame, and the task goes past its act. What the variable named before is given up.
-fn name_unit(
+// A reference to the record at the unit, which the pass has beside those of the frame, is put into
+// the variable, and the task goes past its act. What the variable named before is given up.
+fn put(
+    shared: &Shared,
+    code: &CheckedCode,
+    pass: &mut Pass,
+    running: &mut Running,
+    to: u16,
+    unit: u32,
+)
+    requires table { IsOf shared.now pass.old }
+    requires code { code.now ≡ shared.now.setup.checked }
+    requires may { MayPut shared.now.setup running.old to unit (view pass.old) }
+    ensures pass { IsSameWith (pass.old.held - length (unit_at shared.now.setup running.old to))
+        pass.old pass.new }
+    ensures put { Puts shared.now.setup running.old to unit
+        (view pass.old) running.new (view pass.new) }
+{
+    let _program = code.program();
+    let before = assign(code, &mut running.frame, to, unit as u64);
+    pass_on(code, &mut running.frame);
+    drop_loose(shared, pass, running, before);
+}
+
+// The variable names the record that was made for the task.
+fn name(
     shared: &Shared,
     code: &CheckedCode,
     pass: &mut Pass,
@@ -63,10 +86,8 @@ fn name_unit(
     ensures named { Names shared.now.setup running.old to unit
         (view pass.old) running.new (view pass.new) }
 {
-    let _program = code.program();
-    let before = assign(code, &mut running.frame, to, unit as u64);
-    pass_on(code, &mut running.frame);
-    drop_loose(shared, pass, running, before);
+    put(shared, code, pass, running, to, unit);
+    running.made = None;
 }
 
 // One more reference to the record that a variable names.
@@ -115,7 +136,7 @@ fn copy(
         (view pass.old) running.new (view pass.new) }
 {
     let unit = clone_named(shared, code, pass, running, to, source);
-    name_unit(shared, code, pass, running, to, unit);
+    put(shared, code, pass, running, to, unit);
 }
 
 // A variable names no task any more.
@@ -158,8 +179,8 @@ impl<Q: ReadyStore> Scheduler<Q> {
         advance(code, self.shared().columns(), &mut running.frame, requests)
     }
 
-    /// A running task goes past its spawn: the variable names the new task. What it named before is
-    /// given up.
+    /// A running task goes past its spawn: the variable names the new task, by the reference that
+    /// the spawn gave. What it named before is given up.
     pub fn name(
         &self,
         code: &CheckedCode,
@@ -177,7 +198,7 @@ impl<Q: ReadyStore> Scheduler<Q> {
         ensures named { Names self.now.shared.setup running.old to future.unit
             (view pass.old) running.new (view pass.new) }
     {
-        name_unit(self.shared(), code, pass, running, to, future.unit());
+        name(self.shared(), code, pass, running, to, future.unit());
     }
 
     /// A running task goes past its copy: one variable names the task that another names. What it

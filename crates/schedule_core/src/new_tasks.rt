@@ -3,7 +3,7 @@ ghost use Rattle.std.specs.Prelude.{◌≡◌, ◌+◌, ◌≤◌, ◌^◌};
 ghost use Rattle.step_table.specs.DrawSteps.{Asking};
 ghost use Rattle.step_table.specs.Passes.{view, plan, IsOf, IsSame, IsSameWith};
 ghost use Rattle.step_table.specs.PlacingSteps.{Placement};
-ghost use Rattle.schedule_core.specs.NewTasks.{units_given, asking_of, refusal_in, held_spawned};
+ghost use Rattle.schedule_core.specs.NewTasks.{units_given, asking_of, refusal_in, made_in, held_spawned};
 ghost use Rattle.schedule_core.specs.NewTasks.{MayMakeInBlock, MakesInBlock};
 ghost use Rattle.schedule_core.specs.NewTasks.{MayMakeTask, MakesTask, MayPlaceTask};
 ghost use Rattle.schedule_core.specs.References.{HasEach};
@@ -145,5 +145,16 @@ pub(crate) fn refusal_of(spawned: &Spawned) -> Option<CutTag>
         Spawned::Future(_, _) => None,
         Spawned::Null => Some(CutTag::Null),
         Spawned::Over => Some(CutTag::Limit),
+    }
+}
+
+/// The unit of the record that was made, if one was.
+pub(crate) fn made_of(spawned: &Spawned) -> Option<u32>
+    ensures { result ≡ made_in spawned.now }
+{
+    match spawned {
+        Spawned::Future(future, _) => Some(future.unit()),
+        Spawned::Null => None,
+        Spawned::Over => None,
     }
 }

@@ -10,7 +10,7 @@ ghost use Rattle.schedule_core.specs.References.{MayDropEach, DropsEach};
 ghost use Rattle.schedule_core.specs.NextNumbers.{MayNumber, NumbersNext};
 ghost use Rattle.schedule_core.specs.NextPlaces.{MayPlaceFrame, MayPlaceBehind, PlacesAgain};
 ghost use Rattle.schedule_core.specs.Respawning.{unit_next, priority_next};
-ghost use Rattle.schedule_core.specs.Respawning.{MayName, MayRespawn, Respawns};
+ghost use Rattle.schedule_core.specs.Respawning.{IsBehindName, MayRespawn, Respawns};
 ghost use Rattle.schedule_core.specs.Respawning.{MayEnterNext, EntersNext, held_respawned};
 ghost use Rattle.schedule_core.specs.Respawning.{limited, MayRetry, Retries, MayStay, Stays};
 
@@ -159,7 +159,7 @@ fn drop_units(shared: &Shared, pass: &mut Pass, units: &[u64])
 // task's frame, or by the position of a member of an aggregate.
 fn unit_of(code: &CheckedCode, frame: &Frame, behind: Option<u16>) -> Option<u32>
     requires frame { IsFrame code.now frame.now.items }
-    requires names { MayName code.now behind (body_of code.now frame.now.items) }
+    requires names { IsBehindName code.now behind (body_of code.now frame.now.items) }
     requires small { IfSome (unit_next (body_of code.now frame.now.items) behind)
         (λ u. u < 2 ^ 32) }
     ensures { result ≡ unit_next (body_of code.now frame.now.items) behind }

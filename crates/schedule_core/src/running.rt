@@ -16,6 +16,8 @@ pub struct Running {
     pub(crate) priority: Priority,
     // What was refused to it last, if its last request was refused.
     pub(crate) refused: Option<CutTag>,
+    // The unit of the record that was made for its last request, until a variable names it.
+    pub(crate) made: Option<u32>,
     pub frame: Frame,
 }
 

@@ -12,6 +12,7 @@ ghost use Rattle.schedule_core.specs.Taking.{Takes, held_with, run_taken};
 
 use crate::answers::{Outcome, Taken};
 use crate::completing;
+use crate::publishing::tell_full;
 use crate::running::Running;
 use crate::taking::{take_entry, take_spilled};
 use frame_code::CheckedCode;
@@ -143,7 +144,7 @@ impl<Q: ReadyStore> Scheduler<Q> {
     }
 
     /// Puts an entry into the ready store. Where its queue is full, all passes are told so, and a
-    /// sweep finds the record.
+    /// sweep finds the record: the word that tells them was seen set when this returns.
     pub fn publish<R: Wait>(&self, rt: &R, pass: &mut Pass, qpass: &mut Q::QPass, entry: Entry)
         requires table { IsOf self.now.shared pass.old }
         requires store { Q.is_pass self.now.ready qpass.old }
@@ -156,7 +157,7 @@ impl<Q: ReadyStore> Scheduler<Q> {
     {
         match self.ready.push(rt, qpass, entry) {
             Ok(()) => {}
-            Err(_) => self.shared.spill(pass),
+            Err(_) => tell_full(&self.shared, rt, pass),
         }
     }
 }

@@ -4,13 +4,13 @@ ghost use Rattle.frame_code.specs.Frames.{IsFrame};
 ghost use Rattle.frame_code.specs.Setting.{HasSort};
 ghost use Rattle.task_syntax.specs.declared.program.Sort.TheVariants.{Future as FutureSort};
 ghost use Rattle.step_table.specs.Passes.{view, IsOf, IsSameWith};
-ghost use Rattle.schedule_core.specs.NewTasks.{refusal_in, held_spawned};
+ghost use Rattle.schedule_core.specs.NewTasks.{refusal_in, made_in, held_spawned};
 ghost use Rattle.schedule_core.specs.Runs.{IsInStep};
 ghost use Rattle.schedule_core.specs.Spawning.{named_if};
 ghost use Rattle.schedule_core.specs.Spawning.{MaySpawn, Spawns, MaySpawnBlock, SpawnsBlock};
 
 use crate::answers::Spawned;
-use crate::new_tasks::{Given, NewTask, make_in_block, refusal_of};
+use crate::new_tasks::{Given, NewTask, made_of, make_in_block, refusal_of};
 use crate::running::Running;
 use crate::scheduler::Scheduler;
 use frame_code::{CheckedCode, Few, Frame, SpawnRequest, class_of, entry_frame, future, passed_by};
@@ -85,7 +85,8 @@ pub(crate) fn spawn(
     requires may { MaySpawn shared.now.setup running.old request.now (view pass.old) }
     requires room { pass.old.held + 64 ≤ 2 ^ 32 }
     ensures pass { IsSameWith (held_spawned pass.old.held result) pass.old pass.new }
-    ensures running { running.new ≡ record running.old { refused = refusal_in result } }
+    ensures running { running.new ≡ record running.old
+        { refused = refusal_in result; made = made_in result } }
     ensures spawned { Spawns shared.now.setup running.old request.now
         (view pass.old) result (view pass.new) }
     ensures in_step { IsInStep shared.now.setup running.new (view pass.new) }
@@ -97,6 +98,7 @@ pub(crate) fn spawn(
         Allocated::Block(block) => spawn_block(shared, code, pass, running, request, block),
     };
     running.refused = refusal_of(&spawned);
+    running.made = made_of(&spawned);
     spawned
 }
 
@@ -117,7 +119,8 @@ impl<Q: ReadyStore> Scheduler<Q> {
         requires may { MaySpawn self.now.shared.setup running.old request.now (view pass.old) }
         requires room { pass.old.held + 64 ≤ 2 ^ 32 }
         ensures pass { IsSameWith (held_spawned pass.old.held result) pass.old pass.new }
-        ensures running { running.new ≡ record running.old { refused = refusal_in result } }
+        ensures running { running.new ≡ record running.old
+            { refused = refusal_in result; made = made_in result } }
         ensures spawned { Spawns self.now.shared.setup running.old request.now
             (view pass.old) result (view pass.new) }
         ensures in_step { IsInStep self.now.shared.setup running.new (view pass.new) }

@@ -1,13 +1,13 @@
 //! A running task asks for an aggregate over several futures.
 ghost use Rattle.std.specs.Prelude.{◌≡◌, ◌+◌, ◌≤◌, ◌^◌};
 ghost use Rattle.step_table.specs.Passes.{view, IsOf, IsSameWith};
-ghost use Rattle.schedule_core.specs.NewTasks.{refusal_in, held_spawned};
+ghost use Rattle.schedule_core.specs.NewTasks.{refusal_in, made_in, held_spawned};
 ghost use Rattle.schedule_core.specs.Runs.{IsInStep};
 ghost use Rattle.schedule_core.specs.SpawningAll.{MaySpawnAll, SpawnsAll};
 ghost use Rattle.schedule_core.specs.SpawningAll.{MaySpawnAllBlock, SpawnsAllBlock};
 
 use crate::answers::Spawned;
-use crate::new_tasks::{Given, NewTask, make_in_block, refusal_of};
+use crate::new_tasks::{Given, NewTask, made_of, make_in_block, refusal_of};
 use crate::running::Running;
 use crate::scheduler::Scheduler;
 use frame_code::{AllRequest, CheckedCode, Frame, members_class, members_frame, units_named};
@@ -64,7 +64,8 @@ pub(crate) fn spawn_all(
     requires may { MaySpawnAll shared.now.setup running.old request.now (view pass.old) }
     requires room { pass.old.held + 64 ≤ 2 ^ 32 }
     ensures pass { IsSameWith (held_spawned pass.old.held result) pass.old pass.new }
-    ensures running { running.new ≡ record running.old { refused = refusal_in result } }
+    ensures running { running.new ≡ record running.old
+        { refused = refusal_in result; made = made_in result } }
     ensures spawned { SpawnsAll shared.now.setup running.old request.now
         (view pass.old) result (view pass.new) }
     ensures in_step { IsInStep shared.now.setup running.new (view pass.new) }
@@ -76,6 +77,7 @@ pub(crate) fn spawn_all(
         Allocated::Block(block) => spawn_all_block(shared, code, pass, running, request, block),
     };
     running.refused = refusal_of(&spawned);
+    running.made = made_of(&spawned);
     spawned
 }
 
@@ -96,7 +98,8 @@ impl<Q: ReadyStore> Scheduler<Q> {
         requires may { MaySpawnAll self.now.shared.setup running.old request.now (view pass.old) }
         requires room { pass.old.held + 64 ≤ 2 ^ 32 }
         ensures pass { IsSameWith (held_spawned pass.old.held result) pass.old pass.new }
-        ensures running { running.new ≡ record running.old { refused = refusal_in result } }
+        ensures running { running.new ≡ record running.old
+            { refused = refusal_in result; made = made_in result } }
         ensures spawned { SpawnsAll self.now.shared.setup running.old request.now
             (view pass.old) result (view pass.new) }
         ensures in_step { IsInStep self.now.shared.setup running.new (view pass.new) }

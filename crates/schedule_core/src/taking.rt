@@ -47,6 +47,7 @@ fn run_of(
         after,
         priority,
         refused: None,
+        made: None,
         frame,
     }
 }

@@ -11,7 +11,7 @@ use Rattle.table_core.specs.declared.setup.Setup.{Setup}
 use Rattle.table_core.specs.declared.view.View.{View}
 use Rattle.step_table.specs.Passes.{view}
 use Rattle.step_table.specs.declared.pass.Pass.{Pass}
-use Rattle.schedule_core.specs.NewTasks.{refusal_in, held_spawned, kind_class, group_class}
+use Rattle.schedule_core.specs.NewTasks.{refusal_in, made_in, held_spawned, kind_class, group_class}
 use Rattle.schedule_core.specs.PastFrames.{past_words}
 use Rattle.schedule_core.specs.Respawning.{AsksOnNull}
 use Rattle.schedule_core.specs.Runs.{IsInStep}
@@ -37,47 +37,49 @@ retries-all p c request (OfKind q) asks retry = inr (request, asks, retry)
 retries-all p c request (OfMembers units next) asks retry = absurd asks
 
 pub spawn-answers : (g : Setup) (x : Running) (request : SpawnRequest) (told : Spawned) (old new : Pass) → Runs g x [] old → AsksFor g.checked g.columns (act.Spawn request) (body_of g.checked x.frame.items)
-    → Spawns g x request (view old) told (view new) → IsInStep g (record x { refused = refusal_in told }) (view new) → new.held ≡ held_spawned old.held told
-    → Answers g (record x { refused = refusal_in told }) request.to request.retry told new
+    → Spawns g x request (view old) told (view new) → IsInStep g (record x { refused = refusal_in told; made = made_in told }) (view new) → new.held ≡ held_spawned old.held told
+    → Answers g (record x { refused = refusal_in told; made = made_in told }) request.to request.retry told new
 spawn-answers g x request (spawned.Future future entry) old new r asks has s held = (
   record {
-    alone = new-alone g x (record x { refused = None }) future.unit (past_words g.checked x.frame.items request.to future.unit) (view old) (view new) r.alone (ap others has.view_is) (ap (λ (v : View). v.chains) has.view_is)
-        (ap (λ (v : View). v.answers) has.view_is) (ap (λ (v : View). v.futures) has.view_is) (ap (λ (v : View). v.runs) has.view_is) refl s;
+    alone = new-alone g x (record x { refused = None; made = Some future.unit }) future.unit (past_words g.checked x.frame.items request.to future.unit) (view old) (view new) r.alone (ap others has.gets.view_is) (ap (λ (v : View). v.chains) has.gets.view_is)
+        (ap (λ (v : View). v.answers) has.gets.view_is) (ap (λ (v : View). v.futures) has.gets.view_is) (ap (λ (v : View). v.runs) has.gets.view_is) refl s;
+    made_is = refl;
     count = omega (arith, held, r.count);
   },
   stands-putting g.checked request.to (body_of g.checked x.frame.items) (stands-asking g.checked g.columns request (body_of g.checked x.frame.items) asks),
   refl,
 )
 spawn-answers g x request spawned.Null old new r asks has s held = (
-  record { alone = null-alone g (kind_class g.checked request.kind) x (record x { refused = Some cut.Null }) (view old) (view new) r.alone has refl s; count = held ∙ r.count },
+  record { alone = null-alone g (kind_class g.checked request.kind) x (record x { refused = Some cut.Null; made = None }) (view old) (view new) r.alone has refl s; made_is = refl; count = held ∙ r.count },
   refl,
   λ retry. retries g.checked g.columns request (body_of g.checked x.frame.items) asks retry,
 )
 spawn-answers g x request spawned.Over old new r asks has s held = (
-  record { alone = met-alone g (kind_class g.checked request.kind) x (record x { refused = Some cut.Limit }) (view old) (view new) r.alone has refl s; count = held ∙ r.count },
-  met-refused g (kind_class g.checked request.kind) x (record x { refused = Some cut.Limit }) (view old) (view new) has refl,
+  record { alone = met-alone g (kind_class g.checked request.kind) x (record x { refused = Some cut.Limit; made = None }) (view old) (view new) r.alone has refl s; made_is = refl; count = held ∙ r.count },
+  met-refused g (kind_class g.checked request.kind) x (record x { refused = Some cut.Limit; made = None }) (view old) (view new) has refl,
 )
 
 pub all-answers : (g : Setup) (x : Running) (request : AllRequest) (told : Spawned) (old new : Pass) → Runs g x [] old → AsksFor g.checked g.columns (act.All request) (body_of g.checked x.frame.items)
-    → SpawnsAll g x request (view old) told (view new) → IsInStep g (record x { refused = refusal_in told }) (view new) → new.held ≡ held_spawned old.held told
-    → Answers g (record x { refused = refusal_in told }) request.to request.retry told new
+    → SpawnsAll g x request (view old) told (view new) → IsInStep g (record x { refused = refusal_in told; made = made_in told }) (view new) → new.held ≡ held_spawned old.held told
+    → Answers g (record x { refused = refusal_in told; made = made_in told }) request.to request.retry told new
 all-answers g x request (spawned.Future future entry) old new r asks has s held = (
   record {
-    alone = new-alone g x (record x { refused = None }) future.unit (past_words g.checked x.frame.items request.to future.unit) (view old) (view new) r.alone (ap others has.view_is) (ap (λ (v : View). v.chains) has.view_is)
-        (ap (λ (v : View). v.answers) has.view_is) (ap (λ (v : View). v.futures) has.view_is) (ap (λ (v : View). v.runs) has.view_is) refl s;
+    alone = new-alone g x (record x { refused = None; made = Some future.unit }) future.unit (past_words g.checked x.frame.items request.to future.unit) (view old) (view new) r.alone (ap others has.gets.view_is) (ap (λ (v : View). v.chains) has.gets.view_is)
+        (ap (λ (v : View). v.answers) has.gets.view_is) (ap (λ (v : View). v.futures) has.gets.view_is) (ap (λ (v : View). v.runs) has.gets.view_is) refl s;
+    made_is = refl;
     count = omega (arith, held, r.count);
   },
   stands-putting g.checked request.to (body_of g.checked x.frame.items) (stands-asking_all g.checked g.columns request (body_of g.checked x.frame.items) asks),
   refl,
 )
 all-answers g x request spawned.Null old new r asks has s held = (
-  record { alone = null-alone g (group_class (length request.members)) x (record x { refused = Some cut.Null }) (view old) (view new) r.alone has refl s; count = held ∙ r.count },
+  record { alone = null-alone g (group_class (length request.members)) x (record x { refused = Some cut.Null; made = None }) (view old) (view new) r.alone has refl s; made_is = refl; count = held ∙ r.count },
   refl,
   λ retry. retries-all g.checked g.columns request (body_of g.checked x.frame.items) asks retry,
 )
 all-answers g x request spawned.Over old new r asks has s held = (
-  record { alone = met-alone g (group_class (length request.members)) x (record x { refused = Some cut.Limit }) (view old) (view new) r.alone has refl s; count = held ∙ r.count },
-  met-refused g (group_class (length request.members)) x (record x { refused = Some cut.Limit }) (view old) (view new) has refl,
+  record { alone = met-alone g (group_class (length request.members)) x (record x { refused = Some cut.Limit; made = None }) (view old) (view new) r.alone has refl s; made_is = refl; count = held ∙ r.count },
+  met-refused g (group_class (length request.members)) x (record x { refused = Some cut.Limit; made = None }) (view old) (view new) has refl,
 )
 
 -- what is served of a task is served of it with another frame

@@ -1,6 +1,7 @@
 -- What the calls of the scheduler leave of a task that a worker runs.
-use Rattle.std.proofs.Common.{◌≡◌, ◌∙◌, ◌⊎◌, inl, inr, ℕ, ◌+◌, ◌==◌, Option, Some, List, [], ◌∷◌, sym, ap, subst, arith}
-use Rattle.std.specs.Prelude.{slice_index}
+use Rattle.std.proofs.Common.{◌≡◌, ◌∙◌, ◌⊎◌, inl, inr, ℕ, ◌+◌, ◌==◌, Option, Some, None, List, [], ◌∷◌, refl, sym, ap, subst, arith}
+use Rattle.std.specs.Option.{option_to_list}
+use Rattle.std.specs.Prelude.{slice_get, slice_index}
 use Rattle.record_core.specs.Counting.{Has, times, one_if}
 use Rattle.record_core.specs.declared.rows.CutTag.TheVariants as cut
 use Rattle.record_core.proofs.TotalFacts.{total-append}
@@ -8,9 +9,8 @@ use Rattle.frame_code.specs.Names.{names_of, named}
 use Rattle.frame_code.specs.Units.{named_in}
 use Rattle.frame_code.specs.Words.{BodyOf}
 use Rattle.ready_queues.specs.declared.entry.Entry.{Entry}
-use Rattle.table_core.specs.Addresses.{sum}
 use Rattle.table_core.specs.Asking.{Answer, OfTask, IsLimit}
-use Rattle.table_core.specs.Views.{IsIdle, saw}
+use Rattle.table_core.specs.Views.{IsIdle}
 use Rattle.table_core.specs.WaitViews.{is_run_at}
 use Rattle.table_core.specs.declared.setup.Setup.{Setup}
 use Rattle.table_core.specs.declared.view.View.{View}
@@ -26,10 +26,11 @@ use Rattle.schedule_core.specs.Begins.{MetLimit}
 use Rattle.schedule_core.specs.Completing.{WasRefused}
 use Rattle.schedule_core.specs.declared.answers.Outcome.TheVariants.{RefusedLimit}
 use Rattle.schedule_core.specs.FrameWords.{OnlySees}
-use Rattle.schedule_core.specs.Moves.{GoesPast, RunsOn}
+use Rattle.schedule_core.specs.Moves.{GoesPast, RunsOn, unmade}
 use Rattle.schedule_core.specs.Respawning.{HasRespawned, IsLimited}
 use Rattle.schedule_core.specs.Runs.{IsInStep}
 use Rattle.schedule_core.specs.NewTasks.{asking_of}
+use Rattle.schedule_core.proofs.SpawnBlocks.{answered-in-step}
 use Rattle.schedule_core.specs.Taking.{TakesRun}
 use Rattle.schedule_core.specs.declared.running.Running.{Running}
 use Rattle.frame_code.specs.declared.act.Act.{Act}
@@ -37,9 +38,9 @@ use Rattle.worker_loop.specs.Working.{others, RunsAlone}
 use Rattle.worker_loop.proofs.HandFacts.{others-idle, idle-of, changed-one, dropped-run, less-all, answered-alone}
 
 -- an entry that was published has changed nothing in the hand
-pub publishes-sees : {P Q : Type 0} (old new : View) → (P × (new ≡ old)) ⊎ (Q × ((found : ℕ) × (new ≡ saw (sum 4) found old))) → OnlySees old new
+pub publishes-sees : {P Q S : Type 0} (old new : View) → (P × (new ≡ old)) ⊎ (Q × (S × OnlySees old new)) → OnlySees old new
 publishes-sees old new (inl (pushed, is)) = record { seen = ([], ap (λ (v : View). v.seen) is); view_is = is ∙ (λ k. record old { seen = (sym is k).seen }) }
-publishes-sees old new (inr (full, (found, is))) = record { seen = ((sum 4, found) ∷ [], ap (λ (v : View). v.seen) is); view_is = is ∙ (λ k. record old { seen = (sym is k).seen }) }
+publishes-sees old new (inr (full, (told, sees))) = sees
 
 -- the frame of a run that was taken names what its words name
 taken-names : (g : Setup) (u n : ℕ) (priority : Priority) (old : View) (x : Running) (new : View) (t : TakesRun g u n priority old x new) → named_in g.checked x.frame.items ≡ named g.checked (slice_index t.words)
@@ -78,7 +79,7 @@ advanced-alone g x v asked y a on = record {
 
 -- where it has a new task, the pass has a reference to that one besides
 pub new-alone : (g : Setup) (x y : Running) (unit : ℕ) (words : List ℕ) (old new : View) → RunsAlone g x [] old → others new ≡ others old → new.chains ≡ old.chains → new.answers ≡ old.answers → new.futures ≡ unit ∷ old.futures
-    → new.runs ≡ changed (is_run_at x.started.unit) (with_words words) old.runs → y ≡ record x { refused = y.refused } → IsInStep g y new → RunsAlone g y (unit ∷ []) new
+    → new.runs ≡ changed (is_run_at x.started.unit) (with_words words) old.runs → y ≡ record x { refused = y.refused; made = y.made } → IsInStep g y new → RunsAlone g y (unit ∷ []) new
 new-alone g x y unit words old new a none chains answers futures runs is s = record {
   in_step = s;
   one = let c = changed-one (is_run_at x.started.unit) (with_words words) old.runs a.one in (c.0, runs ∙ c.1);
@@ -89,7 +90,7 @@ new-alone g x y unit words old new a none chains answers futures runs is s = rec
 }
 
 -- where the pool had no block, it is all that the pass has still
-pub null-alone : (g : Setup) (class : ℕ) (x y : Running) (old new : View) → RunsAlone g x [] old → Refuses g.plan class old new → y ≡ record x { refused = y.refused } → IsInStep g y new → RunsAlone g y [] new
+pub null-alone : (g : Setup) (class : ℕ) (x y : Running) (old new : View) → RunsAlone g x [] old → Refuses g.plan class old new → y ≡ record x { refused = y.refused; made = y.made } → IsInStep g y new → RunsAlone g y [] new
 null-alone g class x y old new a has is s = record {
   in_step = s;
   one = (a.one.0, ap (λ (v : View). v.runs) has.stays ∙ a.one.1);
@@ -100,7 +101,7 @@ null-alone g class x y old new a has is s = record {
 }
 
 -- and where the limit was met, it was told so
-pub met-alone : (g : Setup) (class : ℕ) (x y : Running) (old new : View) → RunsAlone g x [] old → MetLimit g class (asking_of x) old new → y ≡ record x { refused = y.refused } → IsInStep g y new → RunsAlone g y [] new
+pub met-alone : (g : Setup) (class : ℕ) (x y : Running) (old new : View) → RunsAlone g x [] old → MetLimit g class (asking_of x) old new → y ≡ record x { refused = y.refused; made = y.made } → IsInStep g y new → RunsAlone g y [] new
 met-alone g class x y old new a has is s = record {
   in_step = s;
   one = let c = changed-one (is_run_at x.started.unit) (with_words x.frame.items) old.runs a.one in (c.0, ap (λ (v : View). v.runs) has.view_is ∙ c.1);
@@ -110,7 +111,7 @@ met-alone g class x y old new a has is s = record {
   answers = ap (λ (z : Running). answers_left z.task new.answers) is ∙ ap (λ (v : View). answers_left x.task v.answers) has.view_is ∙ answered-alone x.task old.answers a.answers;
 }
 
-pub met-refused : (g : Setup) (class : ℕ) (x y : Running) (old new : View) → MetLimit g class (asking_of x) old new → y ≡ record x { refused = Some cut.Limit } → WasRefused RefusedLimit y new
+pub met-refused : (g : Setup) (class : ℕ) (x y : Running) (old new : View) → MetLimit g class (asking_of x) old new → y ≡ record x { refused = Some cut.Limit; made = y.made } → WasRefused RefusedLimit y new
 met-refused g class x y old new has is = (
   ap (λ (z : Running). z.refused) is,
   subst (λ (l : List Answer). Has (record { asker = OfTask y.task; refusal = IsLimit }) l) (sym (ap (λ (v : View). v.answers) has.view_is)) (0, ap (λ (z : Running). Some (record { asker = OfTask z.task; refusal = IsLimit })) (sym is)),
@@ -153,3 +154,23 @@ limited-alone g x old back new a has = (
         (0, ap (λ (z : Running). Some (record { asker = OfTask z.task; refusal = IsLimit })) (sym has.back_is)),
   ),
 )
+
+-- that its variable names the new task changes nothing in the hand
+pub alone-unmade : (g : Setup) (x : Running) (units : List ℕ) (v : View) → RunsAlone g x units v → RunsAlone g (unmade x) units v
+alone-unmade g x units v a = record {
+  in_step = answered-in-step g x (unmade x) v refl a.in_step;
+  one = a.one;
+  none = a.none;
+  chains = a.chains;
+  bag = a.bag;
+  answers = a.answers;
+}
+
+-- what was made for a task is in a list, if anything was
+pub none-made : (made : Option ℕ) → option_to_list made ≡ [] → made ≡ None
+none-made None is = refl
+none-made (Some u) is = cc
+
+pub one-made : (made : Option ℕ) (unit : ℕ) → option_to_list made ≡ unit ∷ [] → made ≡ Some unit
+one-made None unit is = cc
+one-made (Some u) unit is = ap (λ (l : List ℕ). slice_get l 0) is

@@ -1,5 +1,6 @@
 -- What a take and a look at the living records leave of an idle pass.
 use Rattle.std.proofs.Common.{◌≡◌, ◌∙◌, inl, inr, ℕ, Some, None, [], ◌∷◌, ap, arith}
+use Rattle.std.specs.Option.{option_to_list}
 use Rattle.kt_words.specs.declared.state_word.StateWord.{StateWord}
 use Rattle.ready_queues.specs.Moments.{Moment}
 use Rattle.ready_queues.specs.declared.entry.Entry.{Entry}
@@ -24,8 +25,8 @@ sights-idle old new idle is = idle-of new (ap others is ∙ others-idle old idle
 module _ (g : Setup) (lanes begun : ℕ) (saw_of : Moment → Type 0) (old new : Pass) (free : IsFree old) where
   -- the task that was taken is all that the pass has
   pub taken-runs : (x : Running) → Takes g lanes begun saw_of (view old) (taken.Task x) (view new) → new.held ≡ held_with g old.held (Some x) → Runs g x [] new
-  taken-runs x (inl (entry, tells, takes)) held = record { alone = taken-alone g entry.unit entry.number entry.priority (view old) x (view new) free.idle takes; count = omega (arith, held, free.count) }
-  taken-runs x (inr (tells, (spilled, (entry, ready, takes)))) held = record { alone = taken-alone g entry.unit entry.number entry.priority (view old) x (view new) free.idle takes; count = omega (arith, held, free.count) }
+  taken-runs x (inl (entry, tells, takes)) held = record { alone = taken-alone g entry.unit entry.number entry.priority (view old) x (view new) free.idle takes; made_is = ap option_to_list takes.made_is; count = omega (arith, held, free.count) }
+  taken-runs x (inr (tells, (spilled, (entry, ready, takes)))) held = record { alone = taken-alone g entry.unit entry.number entry.priority (view old) x (view new) free.idle takes; made_is = ap option_to_list takes.made_is; count = omega (arith, held, free.count) }
 
   -- and nothing was refused to it
   pub taken-unrefused : (x : Running) → Takes g lanes begun saw_of (view old) (taken.Task x) (view new) → x.refused ≡ None

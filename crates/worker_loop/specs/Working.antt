@@ -1,5 +1,6 @@
 -- What the pass of a worker has in its hand.
 use Rattle.std.specs.Prelude.{◌≡◌, ℕ, ◌+◌, Option, Some, None, List, [], ◌∷◌, length}
+use Rattle.std.specs.Option.{option_to_list}
 use Rattle.record_core.specs.Counting.{times}
 use Rattle.frame_code.specs.Units.{named_in}
 use Rattle.table_core.specs.Addresses.{Addr, sum}
@@ -60,9 +61,10 @@ pub record RunsAlone (g : Setup) (x : Running) (units : List ℕ) (v : View) : T
   pub bag : (w : ℕ) → times w v.futures ≡ times w units + times w (named_in g.checked x.frame.items)
   pub answers : answers_left x.task v.answers ≡ []
 
--- and the pass counts them
+-- The pass counts them, and the record that was made for the task's last act, if one was, is all that they are to beside those of the frame.
 pub record Runs (g : Setup) (x : Running) (units : List ℕ) (p : Pass) : Type 0 where
   pub alone : RunsAlone g x units (view p)
+  pub made_is : option_to_list x.made ≡ units
   pub count : p.held ≡ length units + length (named_in g.checked x.frame.items)
 
 -- the hand has a chain and nothing else

@@ -8,7 +8,7 @@ ghost use Rattle.table_core.specs.Views.{IsIdle};
 ghost use Rattle.step_table.specs.Passes.{view, IsOf};
 ghost use Rattle.schedule_core.specs.Completing.{WasRefused};
 ghost use Rattle.schedule_core.specs.FrameWords.{OnlySees};
-ghost use Rattle.schedule_core.specs.Moves.{Asks};
+ghost use Rattle.schedule_core.specs.Moves.{Asks, unmade};
 ghost use Rattle.schedule_core.specs.Respawning.{AsksOnNull};
 ghost use Rattle.schedule_rule.specs.HeldNames.{StandsPutting};
 ghost use Rattle.worker_loop.specs.Serving.{Places, Answers, Serves, EndsServed};
@@ -221,7 +221,7 @@ fn name<Q: ReadyStore, R: Wait>(
     ensures store { Q.is_pass scheduler.now.ready worker.new.qpass }
     ensures goes { GoesOn worker.old.pass worker.new.pass }
     ensures runs { Runs scheduler.now.shared.setup running.new [] worker.new.pass }
-    ensures same { running.new ≡ record running.old { frame = running.new.frame } }
+    ensures same { running.new ≡ record (unmade running.old) { frame = running.new.frame } }
 {
     publish(scheduler, rt, worker, entry);
     scheduler.name(code, &mut worker.pass, running, to, future);

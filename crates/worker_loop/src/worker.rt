@@ -94,6 +94,8 @@ pub fn run_all<Q: ReadyStore, G: Gate, R: Wait + Threads + Sync>(
     requires tables { All (λ w. IsOf scheduler.now.shared w.pass) workers.old }
     requires stores { All (λ w. Q.is_pass scheduler.now.ready w.qpass) workers.old }
     requires idle { All (λ w. IsIdle (view w.pass)) workers.old }
+    ensures tables { All (λ w. IsOf scheduler.now.shared w.pass) workers.new }
+    ensures stores { All (λ w. Q.is_pass scheduler.now.ready w.qpass) workers.new }
     ensures worked { All (λ w. HasWorked w.worked w.pass) workers.new }
 {
     let threads = workers.len();
@@ -109,7 +111,9 @@ pub fn run_all<Q: ReadyStore, G: Gate, R: Wait + Threads + Sync>(
             requires code { code.now ≡ scheduler.now.shared.setup.checked }
             requires store { Q.is_pass scheduler.now.ready worker.old.qpass }
             requires idle { IsIdle (view worker.old.pass) }
-            ensures worked { HasWorked worker.new.worked worker.new.pass }
+            ensures left { IsOf scheduler.entry.now.shared worker.new.pass
+                × Q.is_pass scheduler.entry.now.ready worker.new.qpass
+                × HasWorked worker.new.worked worker.new.pass }
         { work_once(scheduler, rt, code, worker, gate) },
     );
 }

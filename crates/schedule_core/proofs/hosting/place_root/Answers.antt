@@ -47,4 +47,4 @@ pub returns-in-Some-clause-placed : goal.returns-in-Some-clause-placed
 returns-in-Some-clause-placed g c =
     let told = c.in-Some.ensures.number in
     names-drawn c.args.shared.now.setup c.args.root c.args.line.now c.args.made c.in-Some.made c.args.task.now g.placement c.in-Some.number (view c.args.pass.now) (view c.number_for_root.new.pass) c.requires.1.1.0 told.0
-    told.1 told.2 c.offer-entry.result c.offer-entry.new.pass c.offer-entry.ensures.offered c.name-in-Some.new.pass c.offer-entry.ensures.ready c.name-in-Some.ensures.view
+    told.1 told.2 c.offer-entry.result c.offer-entry.new.pass c.offer-entry.ensures.offered c.name-in-Some.new.pass c.name-in-Some.ensures.view

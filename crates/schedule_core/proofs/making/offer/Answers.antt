@@ -16,14 +16,14 @@ place-placed-requires g c = (
 
 pub keep_count-requires : goal.keep_count-requires
 keep_count-requires g c =
-    offered-few c.args.shared.now.setup c.args.made c.args.number c.args.behind g.placement c.args.pass.now (view c.place-placed.new.pass) c.place-placed.result c.held-held.result c.held-held.ensures.count c.args.pass.now.counts
+    offered-few c.args.shared.now.setup c.args.made c.args.number c.args.priority c.args.behind g.placement c.args.pass.now (view c.place-placed.new.pass) c.place-placed.result c.held-held.result c.held-held.ensures.count c.args.pass.now.counts
     (offers-new c.args.shared.now.setup c.args.made c.args.number c.args.behind c.args.first.now.items g.placement c.args.pass.now c.fill_new.new.pass c.requires.1.1.0
     (subst (λ (p : Program). FillsNew p c.args.made c.args.number c.args.first.now.items (view c.args.pass.now) (view c.fill_new.new.pass)) c.requires.1.0 c.fill_new.ensures.filled)
-    c.place-placed.result (view c.place-placed.new.pass) c.place-placed.ensures.placed)
+    c.args.priority c.place-placed.result (view c.place-placed.new.pass) c.place-placed.ensures.placed)
 
 pub returns-clause-offered : goal.returns-clause-offered
 returns-clause-offered g c =
-    subst (λ (v : View). Offers c.args.shared.now.setup c.args.made c.args.number c.args.behind g.placement (view c.args.pass.now) c.place-placed.result v) (sym c.keep_count.ensures.view)
+    subst (λ (v : View). Offers c.args.shared.now.setup c.args.made c.args.number c.args.priority c.args.behind g.placement (view c.args.pass.now) c.place-placed.result v) (sym c.keep_count.ensures.view)
     (offers-new c.args.shared.now.setup c.args.made c.args.number c.args.behind c.args.first.now.items g.placement c.args.pass.now c.fill_new.new.pass c.requires.1.1.0
     (subst (λ (p : Program). FillsNew p c.args.made c.args.number c.args.first.now.items (view c.args.pass.now) (view c.fill_new.new.pass)) c.requires.1.0 c.fill_new.ensures.filled)
-    c.place-placed.result (view c.place-placed.new.pass) c.place-placed.ensures.placed)
+    c.args.priority c.place-placed.result (view c.place-placed.new.pass) c.place-placed.ensures.placed)

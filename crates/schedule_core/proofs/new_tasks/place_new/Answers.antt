@@ -42,4 +42,4 @@ pub returns-in-Some-clause-made : goal.returns-in-Some-clause-made
 returns-in-Some-clause-made g c base wants making =
     let told = c.in-Some.ensures.number in
     makes-new c.args.shared.now.setup c.args.running.now c.args.made c.in-Some.made c.args.new.now c.args.behind g.placement c.in-Some.number (view c.args.pass.now) (view c.number_for_run-drawn.new.pass)
-    (view c.offer-entry.new.pass) c.offer-entry.result c.requires.1.1.0 told.0 told.1 c.offer-entry.ensures.offered c.offer-entry.ensures.ready base wants making
+    (view c.offer-entry.new.pass) c.offer-entry.result c.requires.1.1.0 told.0 told.1 c.offer-entry.ensures.offered base wants making

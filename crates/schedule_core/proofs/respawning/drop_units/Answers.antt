@@ -1,11 +1,12 @@
 use Rattle.std.proofs.Common.{◌+◌, ◌∷◌, [], ℕ, Some, List, drop, refl, sym, subst, arith}
+use Rattle.std.proofs.lemmas.List.{drop_all}
 use Rattle.std.specs.Prelude.{slice_index}
 use Rattle.table_core.proofs.ReferenceBound.{units-few}
 use Rattle.future_refs.specs.Drops.{Drops, GivesBack}
 use Rattle.step_table.specs.Passes.{view, plan}
 use Rattle.step_table.specs.RecordHands.{MayLessen}
 use Rattle.schedule_core.proofs.DroppedUnits.{unit-first}
-use Rattle.schedule_core.proofs.EachFacts.{IsDroppingEach, drop-front, dropping-starts, dropping-on, may-drop_one, dropped-one}
+use Rattle.schedule_core.proofs.EachFacts.{IsDroppingEach, drop-front, dropping-starts, dropping-on, dropping-done, may-drop_one, dropped-one}
 use Rattle.schedule_core.proofs.respawning.drop_units.Goals as goal
 
 pub units-init : goal.units-init
@@ -35,3 +36,8 @@ units-preserved c =
     let so = subst (λ (l : List ℕ). IsDroppingEach g us l c.args.pass.now c.units.pass) (unit-first us i u c.units-test.true refl) c.units.invariant in
     dropping-on g us (u ∷ []) rest c.args.pass.now c.units.pass c.drop_future.new.pass so c.drop_future.ensures.pass
     (dropped-one (plan c.args.shared.now) (Some u) u (view c.units.pass) (view c.drop_future.new.pass) refl (subst (λ (w : ℕ). Drops (plan c.args.shared.now) w (view c.units.pass) (view c.drop_future.new.pass)) c.of-future.ensures c.drop_future.ensures.view) (subst (λ (w : ℕ). GivesBack w (view c.units.pass) (view c.drop_future.new.pass)) c.of-future.ensures c.drop_future.ensures.hand))
+
+pub returns-clause-dropped : goal.returns-clause-dropped
+returns-clause-dropped c =
+    let us = c.args.units.now in let i = c.units.unit-index in
+    dropping-done c.args.shared.now.setup us (drop i us) c.args.pass.now c.units.pass (drop_all i us (omega (arith, c.units-test.false))) c.units.invariant

@@ -1,5 +1,5 @@
 use Rattle.std.proofs.Common.{ℕ, Some, List, true, refl, sym, subst}
-use Rattle.future_refs.specs.Drops.{GivesBack}
+use Rattle.future_refs.specs.Drops.{Drops, GivesBack}
 use Rattle.step_table.specs.Passes.{view}
 use Rattle.step_table.specs.PlacingSteps.{MayPlaceNext, PlacesNext}
 use Rattle.step_table.specs.RecordHands.{MayLessen}
@@ -7,6 +7,7 @@ use Rattle.step_table.specs.RecordSteps.{Refers}
 use Rattle.wait_lists.specs.Joining.{MayJoin}
 use Rattle.schedule_core.specs.Making.{JoinsBehind}
 use Rattle.schedule_core.specs.FrameWords.{WritesFrame}
+use Rattle.schedule_core.proofs.EachFacts.{dropped-one}
 use Rattle.schedule_core.proofs.NextBehindFacts.{may-join, may-drop, placed-behind}
 use Rattle.schedule_core.proofs.NextPlaceFacts.{may-referred, may-next}
 use Rattle.schedule_core.proofs.respawning.place_behind.Goals as goal
@@ -54,5 +55,6 @@ returns-clause-placed c =
     let places = subst (λ (ws : List ℕ). PlacesNext g true c.args.started n ws c.write_frame.new.pass c.wait_again-waiter.new.pass) c.as_slice.ensures.value c.wait_again-waiter.ensures.view in
     let y = view c.join-entry.new.pass in
     let joined = subst (λ (m : ℕ). JoinsBehind g m c.args.behind x c.join-entry.result y) c.wait_again-waiter.ensures.waiter c.join-entry.ensures.joined in
-    let gives = subst (λ (m : ℕ). GivesBack m y (view c.drop_future.new.pass)) refers.unit_is c.drop_future.ensures.hand in
+    let gives = dropped-one g.plan (Some b) b y (view c.drop_future.new.pass) refl (subst (λ (m : ℕ). Drops g.plan m y (view c.drop_future.new.pass)) refers.unit_is c.drop_future.ensures.view)
+    (subst (λ (m : ℕ). GivesBack m y (view c.drop_future.new.pass)) refers.unit_is c.drop_future.ensures.hand) in
     placed-behind g u n b t refers.found items v cloned w may refers.view_is wrote places.found x places.view_is c.join-entry.result y joined (view c.drop_future.new.pass) gives c.args.priority t

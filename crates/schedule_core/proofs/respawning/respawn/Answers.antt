@@ -7,7 +7,7 @@ use Rattle.table_core.specs.declared.view.View.{View}
 use Rattle.step_table.specs.Passes.{view}
 use Rattle.step_table.specs.RecordHands.{HasFuture}
 use Rattle.schedule_core.specs.NextNumbers.{HasNumber, IsNextUnit}
-use Rattle.schedule_core.specs.Respawning.{unit_next, MayName, Respawns}
+use Rattle.schedule_core.specs.Respawning.{unit_next, IsBehindName, Respawns}
 use Rattle.schedule_core.proofs.NextNumberFacts.{may-see, load-met}
 use Rattle.schedule_core.proofs.RespawnFacts.{asks-next, has-wanted, small-wanted, opened-few, met-in_step}
 use Rattle.schedule_core.proofs.SpawnRequests.{asks-name}
@@ -25,7 +25,7 @@ returns-then-not-open-clause-respawned c =
 pub unit_of-unit-requires-clause-names : goal.unit_of-unit-requires-clause-names
 unit_of-unit-requires-clause-names c =
     let g = c.args.shared.now.setup in let items = c.args.running.frame.items in let request = c.args.request.now in
-    subst (λ (q : Program). MayName q request.behind (body_of q items)) (sym c.requires.code)
+    subst (λ (q : Program). IsBehindName q request.behind (body_of q items)) (sym c.requires.code)
     (asks-name g.checked g.columns request (body_of g.checked items) (subst IsWellFormed c.requires.code c.program-program.ensures.formed) c.requires.may.asks)
 
 pub unit_of-unit-requires-clause-small : goal.unit_of-unit-requires-clause-small

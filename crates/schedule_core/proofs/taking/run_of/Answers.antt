@@ -98,4 +98,5 @@ returns-clause-run c before t =
     (c.read_after-after.ensures.after.after_is t.call (took-accepted g c.args.started before v t))
     refl
     refl
+    refl
     is

@@ -1,12 +1,13 @@
 use Rattle.std.proofs.Common.{◌∙◌}
 use Rattle.step_table.specs.Passes.{view}
+use Rattle.worker_loop.proofs.CallFacts.{none-made}
 use Rattle.worker_loop.proofs.ChainFacts.{ended-chain}
 use Rattle.worker_loop.proofs.HandFacts.{same-goes, goes-then}
 use Rattle.worker_loop.proofs.CountFacts.{gone-count}
 use Rattle.worker_loop.proofs.serving.finish.Goals as goal
 
 pub complete-chain-requires-clause-may : goal.complete-chain-requires-clause-may
-complete-chain-requires-clause-may g c κs within = record { in_step = c.requires.runs.alone.in_step; refused = c.requires.refused }
+complete-chain-requires-clause-may g c κs within = record { in_step = c.requires.runs.alone.in_step; refused = c.requires.refused; unmade = none-made c.args.running.made c.requires.runs.made_is }
 
 pub start_all-requires-clause-chain : goal.start_all-requires-clause-chain
 start_all-requires-clause-chain g c κs within =

@@ -1,4 +1,5 @@
 use Rattle.frame_code.specs.Words.{body_of}
+use Rattle.worker_loop.proofs.CallFacts.{none-made}
 use Rattle.worker_loop.proofs.CountFacts.{asks-again, few-room}
 use Rattle.worker_loop.proofs.HandFacts.{goes-then, same-goes}
 use Rattle.worker_loop.proofs.PlacedFacts.{places}
@@ -9,6 +10,7 @@ respawn-respawned-requires-clause-may g c κs within = record {
   in_step = c.requires.runs.alone.in_step;
   asks = asks-again c.args.scheduler.now.shared.setup.checked c.args.scheduler.now.shared.setup.columns c.args.request (body_of c.args.scheduler.now.shared.setup.checked c.args.running.frame.items) c.requires.asks;
   unrefused = c.requires.unrefused;
+  unmade = none-made c.args.running.made c.requires.runs.made_is;
 }
 
 pub respawn-respawned-requires-clause-room : goal.respawn-respawned-requires-clause-room

@@ -6,6 +6,7 @@ use Rattle.step_table.specs.Passes.{view}
 use Rattle.schedule_core.specs.Moves.{Asks}
 use Rattle.schedule_core.specs.declared.running.Running.{Running}
 use Rattle.worker_loop.proofs.ActFacts.{asks-drop, alone-stands}
+use Rattle.worker_loop.proofs.CallFacts.{none-made}
 use Rattle.worker_loop.proofs.CountFacts.{asks-copy, few-room}
 use Rattle.worker_loop.proofs.HandFacts.{goes-self, same-goes}
 use Rattle.worker_loop.proofs.PlacedFacts.{past-runs}
@@ -31,7 +32,7 @@ returns-in-Copy-clause-goes g c = same-goes _ c.args.worker.now.pass c.copy.new.
 
 pub returns-in-Copy-clause-served : goal.returns-in-Copy-clause-served
 returns-in-Copy-clause-served g c = (
-  past-runs c.args.scheduler.now.shared.setup c.args.running c.copy.new.running _ _ _ _ [] c.args.worker.now.pass c.copy.new.pass c.requires.runs c.copy.ensures.copied (λ w. omega arith) (omega arith) c.copy.ensures.pass.held_is,
+  past-runs c.args.scheduler.now.shared.setup c.args.running c.copy.new.running _ _ _ _ [] c.args.worker.now.pass c.copy.new.pass c.requires.runs.alone c.requires.runs.count (none-made c.args.running.made c.requires.runs.made_is) c.copy.ensures.copied (λ w. omega arith) (omega arith) c.copy.ensures.pass.held_is,
   ap (λ (z : Running). z.started) c.copy.ensures.copied.moved,
   ap (λ (z : Running). z.refused) c.copy.ensures.copied.moved ∙ c.requires.unrefused,
 )
@@ -47,7 +48,7 @@ returns-in-Drop-clause-goes g c = same-goes _ c.args.worker.now.pass c.let_go.ne
 
 pub returns-in-Drop-clause-served : goal.returns-in-Drop-clause-served
 returns-in-Drop-clause-served g c = (
-  past-runs c.args.scheduler.now.shared.setup c.args.running c.let_go.new.running _ _ _ _ [] c.args.worker.now.pass c.let_go.new.pass c.requires.runs c.let_go.ensures.left (λ w. omega arith) refl (omega (arith, c.let_go.ensures.pass.held_is)),
+  past-runs c.args.scheduler.now.shared.setup c.args.running c.let_go.new.running _ _ _ _ [] c.args.worker.now.pass c.let_go.new.pass c.requires.runs.alone c.requires.runs.count (none-made c.args.running.made c.requires.runs.made_is) c.let_go.ensures.left (λ w. omega arith) refl (omega (arith, c.let_go.ensures.pass.held_is)),
   ap (λ (z : Running). z.started) c.let_go.ensures.left.moved,
   ap (λ (z : Running). z.refused) c.let_go.ensures.left.moved ∙ c.requires.unrefused,
 )

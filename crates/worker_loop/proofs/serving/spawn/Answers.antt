@@ -5,6 +5,7 @@ use Rattle.schedule_core.specs.Runs.{IsInStep}
 use Rattle.schedule_core.specs.declared.running.Running.{Running}
 use Rattle.worker_loop.specs.Serving.{Answers}
 use Rattle.worker_loop.proofs.AnswerFacts.{spawn-answers, serves-same}
+use Rattle.worker_loop.proofs.CallFacts.{none-made}
 use Rattle.worker_loop.proofs.CountFacts.{asks-spawn, few-count}
 use Rattle.worker_loop.proofs.HandFacts.{goes-then, same-goes}
 use Rattle.worker_loop.proofs.serving.spawn.Goals as goal
@@ -14,6 +15,7 @@ spawn-spawned-requires-clause-may g c κs within = record {
   in_step = c.requires.runs.alone.in_step;
   asks = asks-spawn c.args.scheduler.now.shared.setup.checked c.args.scheduler.now.shared.setup.columns c.args.request.now (body_of c.args.scheduler.now.shared.setup.checked c.args.running.frame.items) c.requires.asks;
   unrefused = c.requires.unrefused;
+  unmade = none-made c.args.running.made c.requires.runs.made_is;
 }
 
 pub spawn-spawned-requires-clause-room : goal.spawn-spawned-requires-clause-room

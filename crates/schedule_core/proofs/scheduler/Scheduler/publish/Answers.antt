@@ -5,4 +5,4 @@ pub returns-in-Ok-clause-published : goal.returns-in-Ok-clause-published
 returns-in-Ok-clause-published g c = inl (c.in-Ok.ensures.told, refl)
 
 pub returns-in-Err-clause-published : goal.returns-in-Err-clause-published
-returns-in-Err-clause-published g c = inr (c.in-Err.ensures.told.1, (c.spill.ensures.spill.found, c.spill.ensures.spill.view_is))
+returns-in-Err-clause-published g c = inr (c.in-Err.ensures.told.1, c.tell_full.ensures.told)
