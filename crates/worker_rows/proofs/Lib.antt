@@ -1,0 +1,2 @@
+pub mod LeftFacts
+pub mod LeadFacts
