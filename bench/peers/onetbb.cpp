@@ -1,11 +1,11 @@
-// The families on oneTBB, with a task group in an arena of one thread. A call is a task; it waits for its calls in place,
+// The families on oneTBB, with a task group in an arena of so many threads. A call is a task; it waits for its calls in place,
 // so a chain is a loop. A task of a group has no priority.
 #include "peer.hpp"
 
 #include <tbb/task_arena.h>
 #include <tbb/task_group.h>
 
-static tbb::task_arena arena(1);
+static tbb::task_arena arena(threads());
 
 static std::uint64_t fib_task(std::uint64_t n) {
     if (n < 2) {
@@ -44,6 +44,22 @@ static std::uint64_t chain_task(std::uint64_t n) {
     return sum;
 }
 
+// A task at depth 0 is done; any other spawns two. Nothing is handed back.
+static void grow(std::uint64_t depth) {
+    if (depth == 0) {
+        return;
+    }
+    tbb::task_group calls;
+    calls.run([depth] { grow(depth - 1); });
+    calls.run([depth] { grow(depth - 1); });
+    calls.wait();
+}
+
+static std::uint64_t tree_task(std::uint64_t depth) {
+    grow(depth);
+    return 0;
+}
+
 // The root is a task of its own.
 template <std::uint64_t (*Task)(std::uint64_t)>
 static std::uint64_t run(std::uint64_t size) {
@@ -58,5 +74,7 @@ static std::uint64_t run(std::uint64_t size) {
 
 int main(int count, char **words) {
     arena.execute([] {});
-    return run_family(count, words, {{"fib", run<fib_task>}, {"grid", run<grid_task>}, {"chain", run<chain_task>}});
+    return run_family(
+        count, words,
+        {{"fib", run<fib_task>}, {"grid", run<grid_task>}, {"chain", run<chain_task>}, {"tree", run<tree_task>}});
 }

@@ -1,5 +1,4 @@
-// The families on the tasks of OpenMP, with OMP_NUM_THREADS=1. A call is a task; it waits for its calls in place, so a
-// chain is a loop.
+// The families on the tasks of OpenMP. A call is a task; it waits for its calls in place, so a chain is a loop.
 #include "peer.hpp"
 
 static std::uint64_t fib_task(std::uint64_t n) {
@@ -44,6 +43,23 @@ static std::uint64_t chain_task(std::uint64_t n) {
     return sum;
 }
 
+// A task at depth 0 is done; any other spawns two. Nothing is handed back.
+static void grow(std::uint64_t depth) {
+    if (depth == 0) {
+        return;
+    }
+#pragma omp task
+    grow(depth - 1);
+#pragma omp task
+    grow(depth - 1);
+#pragma omp taskwait
+}
+
+static std::uint64_t tree_task(std::uint64_t depth) {
+    grow(depth);
+    return 0;
+}
+
 // The root is a task of its own; it has ended where the parallel region ends.
 template <std::uint64_t (*Task)(std::uint64_t)>
 static std::uint64_t run(std::uint64_t size) {
@@ -56,9 +72,11 @@ static std::uint64_t run(std::uint64_t size) {
 }
 
 int main(int count, char **words) {
-    // The first region starts the threads, of which there is one.
+    // The first region starts the threads.
 #pragma omp parallel
     {
     }
-    return run_family(count, words, {{"fib", run<fib_task>}, {"grid", run<grid_task>}, {"chain", run<chain_task>}});
+    return run_family(
+        count, words,
+        {{"fib", run<fib_task>}, {"grid", run<grid_task>}, {"chain", run<chain_task>}, {"tree", run<tree_task>}});
 }

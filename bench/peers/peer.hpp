@@ -1,5 +1,5 @@
 // What the peers share: a peer is named a family of programs and its size, runs it once, and prints the result and how many
-// nanoseconds passed from the first root to the end, by the clock and by the processor.
+// nanoseconds passed from the first root to the end, by the clock and by the processor. OMP_NUM_THREADS is the number of threads.
 #pragma once
 
 #include <chrono>
@@ -14,6 +14,12 @@ struct Family {
     const char *name;
     std::uint64_t (*run)(std::uint64_t size);
 };
+
+// How many threads work.
+inline int threads() {
+    const char *word = std::getenv("OMP_NUM_THREADS");
+    return word == nullptr ? 1 : std::atoi(word);
+}
 
 // Runs a family and prints what came of it.
 inline void measure(const Family &family, std::uint64_t size) {
@@ -33,6 +39,6 @@ inline int run_family(int count, char **words, std::initializer_list<Family> fam
             return 0;
         }
     }
-    std::cerr << "words: FAMILY SIZE, with fib, grid or chain for FAMILY" << std::endl;
+    std::cerr << "words: FAMILY SIZE, with fib, grid, chain or tree for FAMILY" << std::endl;
     return 2;
 }
