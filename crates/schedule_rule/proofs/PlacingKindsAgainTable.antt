@@ -37,7 +37,7 @@ use Rattle.table_core.proofs.ReferenceBound.{in-few}
 use Rattle.table_core.proofs.Rule.{frames, moves}
 use Rattle.table_core.proofs.SightFacts.{sights-written}
 use Rattle.schedule_rule.specs.Parts.{AllSay}
-use Rattle.schedule_rule.specs.PlacingViews.{less, is_drawn, placed_again, IsPlacedWord, MayPlaceAgain}
+use Rattle.schedule_rule.specs.PlacingViews.{less, is_drawn, placed_again, placing as placed_at, logged, IsPlacedWord, MayPlaceAgain}
 use Rattle.schedule_rule.proofs.PlacingFacts.{length-less, times-less, kept-known, dropped-other}
 use Rattle.schedule_rule.proofs.PlacingFactsFrames.{named-same, control-same, next-short}
 use Rattle.schedule_rule.proofs.PlacingFactsRecords.{IsPlaced, used-same, was-live, now-record, referred-placed, fits-placed, waits-placed}
@@ -73,7 +73,7 @@ module _ (g : Setup) (id : ℕ) (v : View) (m : Mem) (vs : List View) (s : Story
   taken = named g.checked (slice_index words)
 
   abbrev pub after_again : View
-  after_again = saw (state u) (m (state u)) (placed_again waits_then u r.class r.task d.number taken v)
+  after_again = saw (state u) (m (state u)) (logged (placed_at u n words) (placed_again waits_then u r.class r.task d.number taken v))
 
   -- where the hand stands among all
   owner_at : At owners id (seen own v)

@@ -40,7 +40,7 @@ use Rattle.table_core.proofs.SightFacts.{sighted, sights-written}
 use Rattle.schedule_rule.specs.Calls.{AtNumber, IsNumber}
 use Rattle.schedule_rule.specs.Counts.{class_in}
 use Rattle.schedule_rule.specs.Parts.{facts, classes, AllSay, seen as rule_seen}
-use Rattle.schedule_rule.specs.PlacingViews.{kept_sights, is_drawn, futures_with, phase_placed, placed, IsPlacedWord, MayPlace}
+use Rattle.schedule_rule.specs.PlacingViews.{kept_sights, is_drawn, futures_with, phase_placed, placed, placing as placed_at, logged, IsPlacedWord, MayPlace}
 use Rattle.schedule_rule.proofs.ChangedFacts.{AreAs}
 use Rattle.schedule_rule.proofs.DrawKinds.{drawn-numbers}
 use Rattle.schedule_rule.proofs.PlacingFacts.{length-less, times-less, kept-known}
@@ -96,7 +96,7 @@ module _ (g : Setup) (id : ℕ) (v : View) (m : Mem) (vs : List View) (s : Story
   taken = named g.checked (slice_index words)
 
   abbrev pub after_made : View
-  after_made = saw (state u) (m (state u)) (placed waits_then u r.class d.number taken runs v)
+  after_made = saw (state u) (m (state u)) (logged (placed_at u n words) (placed waits_then u r.class d.number taken runs v))
 
   -- where the hand stands among all
   owner_at : At owners id (seen own v)

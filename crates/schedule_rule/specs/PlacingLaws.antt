@@ -12,7 +12,7 @@ use Rattle.table_core.specs.declared.view.View.{View}
 use Rattle.schedule_rule.specs.Frames.{BagSound}
 use Rattle.schedule_rule.specs.LifeViews.{IsMovedFrame}
 use Rattle.schedule_rule.specs.Parts.{bags, seen, Keeps}
-use Rattle.schedule_rule.specs.PlacingViews.{placed_for_run, placed_for_root, placed_again, IsPlacedWord, MayPlace, MayPlaceAgain}
+use Rattle.schedule_rule.specs.PlacingViews.{placed_for_run, placed_for_root, placed_again, placing, logged, IsPlacedWord, MayPlace, MayPlaceAgain}
 
 -- the references that are left are enough for the frames that run afterwards, provided they were enough before
 abbrev pub StillCovers : Setup → View → View → Type 0
@@ -26,7 +26,7 @@ module _ (g : Setup) (id : ℕ) (v : View) where
       → StillCovers g v (placed_for_run waits r.unit r.class d.number (named g.checked (slice_index words)) x.unit past v) → 1 ≤ v.parts
       → (word : ℕ) → IsPlacedWord waits d.number word
       → Keeps g id v (state r.unit) (λ n. word)
-      (λ k w. (n : ℕ) × (w ≡ saw (state r.unit) n (placed_for_run waits r.unit r.class d.number (named g.checked (slice_index words)) x.unit past v)))
+      (λ k w. (n : ℕ) × (w ≡ saw (state r.unit) n (logged (placing r.unit word words) (placed_for_run waits r.unit r.class d.number (named g.checked (slice_index words)) x.unit past v))))
 
   -- the number of a made record is placed that was drawn for the root of the turn
   abbrev pub PlaceForRootKeeps : Type 0
@@ -35,7 +35,7 @@ module _ (g : Setup) (id : ℕ) (v : View) where
       → StillCovers g v (placed_for_root waits r.unit r.class d.number (named g.checked (slice_index words)) v) → 1 ≤ v.parts
       → (word : ℕ) → IsPlacedWord waits d.number word
       → Keeps g id v (state r.unit) (λ n. word)
-      (λ k w. (n : ℕ) × (w ≡ saw (state r.unit) n (placed_for_root waits r.unit r.class d.number (named g.checked (slice_index words)) v)))
+      (λ k w. (n : ℕ) × (w ≡ saw (state r.unit) n (logged (placing r.unit word words) (placed_for_root waits r.unit r.class d.number (named g.checked (slice_index words)) v))))
 
   -- the number that a run drew for its next activation is placed
   abbrev pub PlaceAgainKeeps : Type 0
@@ -43,7 +43,7 @@ module _ (g : Setup) (id : ℕ) (v : View) where
       → StillCovers g v (placed_again waits r.unit r.class r.task d.number (named g.checked (slice_index words)) v) → 1 ≤ v.parts
       → (word : ℕ) → IsPlacedWord waits d.number word
       → Keeps g id v (state r.unit) (λ n. word)
-      (λ k w. (n : ℕ) × (w ≡ saw (state r.unit) n (placed_again waits r.unit r.class r.task d.number (named g.checked (slice_index words)) v)))
+      (λ k w. (n : ℕ) × (w ≡ saw (state r.unit) n (logged (placing r.unit word words) (placed_again waits r.unit r.class r.task d.number (named g.checked (slice_index words)) v))))
 
 -- the steps that place the number of a made record keep the scheduler's rule
 abbrev pub MadePlacingsKeep : Type 0

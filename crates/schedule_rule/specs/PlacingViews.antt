@@ -13,7 +13,7 @@ use Rattle.frame_code.specs.Ways.{HasWay}
 use Rattle.frame_code.specs.Words.{BodyOf, OfKind, OfMembers, body_at}
 use Rattle.table_core.specs.Addresses.{refs, head, task, frame}
 use Rattle.table_core.specs.Asking.{Drawn}
-use Rattle.table_core.specs.Holdings.{Made, Waiter, Run, Sight, SawTask, seen_at}
+use Rattle.table_core.specs.Holdings.{Made, Waiter, Run, Placing, Sight, SawTask, seen_at}
 use Rattle.table_core.specs.Own.{known_in}
 use Rattle.table_core.specs.RecordViews.{is_at, is_made_at, forget_words}
 use Rattle.table_core.specs.Story.{IsAccepted}
@@ -84,6 +84,14 @@ placed_again waits u c t n taken v = record v {
   drawn = dropped (is_drawn n) v.drawn;
   answers = answers_left t v.answers;
 }
+
+-- the record at u has a number from now on: its state word and its frame
+abbrev pub placing : ℕ → ℕ → List ℕ → Placing
+placing u word words = record { unit = u; word = word; words = words }
+
+-- the hand keeps what it placed
+abbrev pub logged : Placing → View → View
+logged x v = record v { placings = x ∷ v.placings }
 
 -- the phase of a record that waits, or is ready
 abbrev pub phase_placed : Bool → ℕ

@@ -15,7 +15,7 @@ use Rattle.table_core.specs.declared.view.View.{View}
 use Rattle.table_core.proofs.ListFacts.{same_some}
 use Rattle.schedule_rule.specs.Parts.{Keeps}
 use Rattle.schedule_rule.specs.PlacingLaws.{StillCovers}
-use Rattle.schedule_rule.specs.PlacingViews.{less, with_act_past, placed, placed_again, phase_placed, IsPlacedWord}
+use Rattle.schedule_rule.specs.PlacingViews.{less, with_act_past, placed, placed_again, placing, logged, phase_placed, IsPlacedWord}
 use Rattle.schedule_rule.proofs.PlacingFacts.{length-less}
 use Rattle.schedule_rule.proofs.PlacingKindsActs.{places-for_run-at, places-for_root-at}
 use Rattle.schedule_rule.proofs.PlacingKindsAgain.{places-again-at}
@@ -54,9 +54,13 @@ word-placed waits number priority word small is shape =
 same-word : (waits : Bool) (n k word : ℕ) → n ≡ k → IsPlacedWord waits k word → IsPlacedWord waits n word
 same-word waits n k word e is = record { phase = is.phase; number_is = is.number_is ∙ sym e; shape = is.shape }
 
--- a placing that leaves enough references keeps the rule, where this is the view that it leaves
-abbrev Placing : Setup → ℕ → View → ℕ → ℕ → View → Type 0
-Placing g id v word u w = StillCovers g v w → Keeps g id v (state u) (λ n. word) (λ k y. (found : ℕ) × (y ≡ saw (state u) found w))
+-- a placing that leaves enough references keeps the rule, where this is the view that it leaves, and these words are the frame
+abbrev KeepsPlaced : Setup → ℕ → View → ℕ → List ℕ → ℕ → View → Type 0
+KeepsPlaced g id v word words u w = StillCovers g v w → Keeps g id v (state u) (λ n. word) (λ k y. (found : ℕ) × (y ≡ saw (state u) found (logged (placing u word words) w)))
+
+-- what the placing of a made record's number tells, which stores this word
+abbrev pub TellsMade : Setup → View → Bool → Made → ℕ → Placement → ℕ → View → Type 0
+TellsMade g v waits made number x word w = (found : ℕ) × (w ≡ saw (state made.unit) found (logged (placing made.unit word x.words) (placed_made waits g.checked made number x v)))
 
 module _ (g : Setup) (id : ℕ) (pass : Pass) (in_use : 1 ≤ (view pass).parts) where
   abbrev v : View
@@ -64,7 +68,7 @@ module _ (g : Setup) (id : ℕ) (pass : Pass) (in_use : 1 ≤ (view pass).parts)
 
   -- the number of a made record is placed, by the values that name the record and the number
   pub places-made : (waits : Bool) (made : Made) (number : ℕ) (x : Placement) → MayPlaceMade g waits made number x pass → (word : ℕ) → IsPlacedWord waits number word
-      → Keeps g id v (state made.unit) (λ n. word) (λ k y. (found : ℕ) × (y ≡ saw (state made.unit) found (placed_made waits g.checked made number x v)))
+      → Keeps g id v (state made.unit) (λ n. word) (λ k y. TellsMade g v waits made number x word y)
   places-made waits made number x may word is = by x.asked may.asked may.covers
     where
       r : MadeOf
@@ -81,25 +85,25 @@ module _ (g : Setup) (id : ℕ) (pass : Pass) (in_use : 1 ≤ (view pass).parts)
       drawn-word = same-word waits may.drawn.number number word may.number_is is
 
       -- from the record itself to the values that name it
-      by-values : (runs : List Run) → Placing g id v word r.unit (placed waits r.unit r.class may.drawn.number taken runs v) → Placing g id v word made.unit (placed waits made.unit made.class number taken runs v)
+      by-values : (runs : List Run) → KeepsPlaced g id v word x.words r.unit (placed waits r.unit r.class may.drawn.number taken runs v) → KeepsPlaced g id v word x.words made.unit (placed waits made.unit made.class number taken runs v)
       by-values runs keeps =
-          subst (λ (u : ℕ). Placing g id v word u (placed waits u made.class number taken runs v)) there.1
-          (subst (λ (c : ℕ). Placing g id v word r.unit (placed waits r.unit c number taken runs v)) may.class_is
-          (subst (λ (n : ℕ). Placing g id v word r.unit (placed waits r.unit r.class n taken runs v)) may.number_is keeps))
+          subst (λ (u : ℕ). KeepsPlaced g id v word x.words u (placed waits u made.class number taken runs v)) there.1
+          (subst (λ (c : ℕ). KeepsPlaced g id v word x.words r.unit (placed waits r.unit c number taken runs v)) may.class_is
+          (subst (λ (n : ℕ). KeepsPlaced g id v word x.words r.unit (placed waits r.unit r.class n taken runs v)) may.number_is keeps))
 
-      by : (asked : PlacedFor) → IsFor g may.drawn asked v → Placing g id v word made.unit (placed waits made.unit made.class number taken (runs_past asked v.runs) v)
+      by : (asked : PlacedFor) → IsFor g may.drawn asked v → KeepsPlaced g id v word x.words made.unit (placed waits made.unit made.class number taken (runs_past asked v.runs) v)
       by (ForRun w past) asks =
           let run = run-there w v.runs asks.run asks.at.there in
           let same : with_act_past asks.run.unit past v.runs ≡ with_act_past w past v.runs = ap (λ (u : ℕ). with_act_past u past v.runs) run.1 in
           by-values (with_act_past w past v.runs)
-          (subst (λ (runs : List Run). Placing g id v word r.unit (placed waits r.unit r.class may.drawn.number taken runs v)) same
+          (subst (λ (runs : List Run). KeepsPlaced g id v word x.words r.unit (placed waits r.unit r.class may.drawn.number taken runs v)) same
           (λ enough. places-for_run-at g id v waits r may.drawn x.call x.words may.may asks.run run.0 asks.asker_is past asks.moved enough in_use word drawn-word))
       by ForRoot asks = by-values v.runs (λ enough. places-for_root-at g id v waits r may.drawn x.call x.words may.may asks.0 asks.1 enough in_use word drawn-word)
 
   -- the next number of a run is placed, by the values that name the run and the number
   pub places-next : (waits : Bool) (started : Started) (number : ℕ) (words : List ℕ) (may : MayPlaceNext g waits started number words v) → (word : ℕ) → IsPlacedWord waits number word
-      → Keeps g id v (state started.unit) (λ n. word) (λ k y. (found : ℕ) × (y ≡ saw (state started.unit) found (placed_next waits g.checked may.run number words v)))
-  places-next waits started number words may word is = subst (λ (u : ℕ). Keeps g id v (state u) (λ n. word) (λ k y. (found : ℕ) × (y ≡ saw (state u) found (after number)))) there.1 (by-number may.covers)
+      → Keeps g id v (state started.unit) (λ n. word) (λ k y. (found : ℕ) × (y ≡ saw (state started.unit) found (logged (placing started.unit word words) (placed_next waits g.checked may.run number words v))))
+  places-next waits started number words may word is = subst (λ (u : ℕ). Keeps g id v (state u) (λ n. word) (λ k y. (found : ℕ) × (y ≡ saw (state u) found (logged (placing u word words) (after number))))) there.1 (by-number may.covers)
     where
       r : Run
       r = may.run
@@ -110,26 +114,26 @@ module _ (g : Setup) (id : ℕ) (pass : Pass) (in_use : 1 ≤ (view pass).parts)
       after : ℕ → View
       after n = placed_again waits r.unit r.class r.task n (named g.checked (slice_index words)) v
 
-      by-number : Placing g id v word r.unit (after number)
-      by-number = subst (λ (n : ℕ). Placing g id v word r.unit (after n)) may.number_is
+      by-number : KeepsPlaced g id v word words r.unit (after number)
+      by-number = subst (λ (n : ℕ). KeepsPlaced g id v word words r.unit (after n)) may.number_is
           (λ enough. places-again-at g id v waits r may.drawn words may.may enough in_use word (same-word waits may.drawn.number number word may.number_is is))
 
--- what the placing of a run's next number tells, of whichever run is looked up there
-abbrev pub TellsNext : Setup → View → Bool → ℕ → ℕ → List ℕ → View → Type 0
-TellsNext g v waits u number words w = (found : ℕ) × ((run : Run) → RunAt g.plan u v run → w ≡ saw (state u) found (placed_next waits g.checked run number words v))
+-- what the placing of a run's next number tells, which stores this word, of whichever run is looked up there
+abbrev pub TellsNext : Setup → View → Bool → ℕ → ℕ → List ℕ → ℕ → View → Type 0
+TellsNext g v waits u number words word w = (found : ℕ) × ((run : Run) → RunAt g.plan u v run → w ≡ saw (state u) found (logged (placing u word words) (placed_next waits g.checked run number words v)))
 
 pub places-any : (g : Setup) (id : ℕ) (pass : Pass) → 1 ≤ (view pass).parts → (waits : Bool) (started : Started) (number : ℕ) (words : List ℕ) (may : MayPlaceNext g waits started number words (view pass))
-    → (word : ℕ) → IsPlacedWord waits number word → Keeps g id (view pass) (state started.unit) (λ n. word) (λ k w. TellsNext g (view pass) waits started.unit number words w)
+    → (word : ℕ) → IsPlacedWord waits number word → Keeps g id (view pass) (state started.unit) (λ n. word) (λ k w. TellsNext g (view pass) waits started.unit number words word w)
 places-any g id pass in_use waits started number words may word is =
-    weaker g id (view pass) (state started.unit) (λ n. word) one (λ k w. TellsNext g (view pass) waits started.unit number words w) any (places-next g id pass in_use waits started number words may word is)
+    weaker g id (view pass) (state started.unit) (λ n. word) one (λ k w. TellsNext g (view pass) waits started.unit number words word w) any (places-next g id pass in_use waits started number words may word is)
   where
     after : Run → ℕ → View
-    after run found = saw (state started.unit) found (placed_next waits g.checked run number words (view pass))
+    after run found = saw (state started.unit) found (logged (placing started.unit word words) (placed_next waits g.checked run number words (view pass)))
 
     one : ℕ → View → Type 0
     one k w = (found : ℕ) × (w ≡ after may.run found)
 
-    any : (k : ℕ) (w : View) → one k w → TellsNext g (view pass) waits started.unit number words w
+    any : (k : ℕ) (w : View) → one k w → TellsNext g (view pass) waits started.unit number words word w
     any k w told = (told.0, λ run at. told.1 ∙ ap (λ (r : Run). after r told.0) (same_some may.run run (sym may.at.there ∙ at.there)))
 
 -- a pass that has so many references at most has no more but one, where it takes one and gives others up

@@ -3,6 +3,7 @@ use Rattle.std.specs.Prelude.{◌≡◌, ℕ, ◌^◌, ◌<◌, ◌≤◌, Bool,
 use Rattle.kt_words.specs.declared.phase.Phase.TheVariants.{Waiting, Ready}
 use Rattle.kt_words.specs.declared.state_word.StateWord.{StateWord}
 use Rattle.kt_words.specs.declared.tag.Tag.TheVariants.{Unset}
+use Rattle.kt_words.specs.StateWords.{packed_state}
 use Rattle.task_syntax.specs.declared.program.Program.{Program}
 use Rattle.task_syntax.specs.declared.value.Priority.{Priority}
 use Rattle.task_syntax.specs.declared.value.Priority.TheVariants.{High, Regular, Low}
@@ -10,13 +11,13 @@ use Rattle.task_meaning.specs.Worths.{Accepted}
 use Rattle.frame_code.specs.Names.{named}
 use Rattle.table_core.specs.Addresses.{state}
 use Rattle.table_core.specs.Asking.{Drawn, OfRoot, OfTask}
-use Rattle.table_core.specs.Holdings.{Made as MadeOf, Run}
+use Rattle.table_core.specs.Holdings.{Made as MadeOf, Run, Placing}
 use Rattle.table_core.specs.Views.{saw}
 use Rattle.table_core.specs.declared.setup.Setup.{Setup}
 use Rattle.table_core.specs.declared.view.View.{View}
 use Rattle.schedule_rule.specs.LifeViews.{IsMovedFrame}
 use Rattle.schedule_rule.specs.PlacingLaws.{StillCovers}
-use Rattle.schedule_rule.specs.PlacingViews.{with_act_past, placed, placed_again, MayPlace, MayPlaceAgain}
+use Rattle.schedule_rule.specs.PlacingViews.{with_act_past, placed, placed_again, placing, logged, MayPlace, MayPlaceAgain}
 use Rattle.step_table.specs.declared.pass.Pass.{Pass}
 use Rattle.step_table.specs.declared.record_tokens.Made.{Made}
 use Rattle.step_table.specs.declared.record_tokens.Started.{Started}
@@ -32,6 +33,10 @@ priority_code Low = 2
 -- the word of a record that waits, or is ready, with this number
 abbrev pub word_placed : Bool → ℕ → Priority → StateWord
 word_placed waits number priority = record { phase = cond waits Waiting Ready; priority = priority_code priority; tag = Unset; number = number }
+
+-- the record at the unit waits, or is ready, with this number, priority and frame
+abbrev pub placing_of : Bool → ℕ → ℕ → Priority → List ℕ → Placing
+placing_of waits unit number priority words = placing unit (packed_state (word_placed waits number priority)) words
 
 -- who asked for the number of a made record: the run at a unit, whose frame has these words once it is past that act, or the root
 -- of the turn
@@ -80,10 +85,10 @@ pub record MayPlaceMade (g : Setup) (waits : Bool) (made : Made) (number : ℕ) 
   pub asked : IsFor g drawn x.asked (view pass)
   pub covers : StillCovers g (view pass) (placed_made waits g.checked made number x (view pass))
 
--- the number is placed; the pass has a reference to the record, and those of its frame no more
-pub record PlacesMade (g : Setup) (waits : Bool) (made : Made) (number : ℕ) (x : Placement) (old new : Pass) : Type 0 where
+-- The number is placed with its priority and the frame; the pass has a reference to the record, and those of its frame no more.
+pub record PlacesMade (g : Setup) (waits : Bool) (made : Made) (number : ℕ) (priority : Priority) (x : Placement) (old new : Pass) : Type 0 where
   pub found : ℕ
-  pub view_is : view new ≡ saw (state made.unit) found (placed_made waits g.checked made number x (view old))
+  pub view_is : view new ≡ saw (state made.unit) found (logged (placing_of waits made.unit number priority x.words) (placed_made waits g.checked made number x (view old)))
 
 -- the view with the next number of the run placed, and these words in its frame
 abbrev pub placed_next : Bool → Program → Run → ℕ → List ℕ → View → View
@@ -100,7 +105,8 @@ pub record MayPlaceNext (g : Setup) (waits : Bool) (started : Started) (number :
   pub may : MayPlaceAgain g.checked v waits run drawn words
   pub covers : StillCovers g v (placed_next waits g.checked run number words v)
 
--- the number is placed, and the run is in the hand no more
-pub record PlacesNext (g : Setup) (waits : Bool) (started : Started) (number : ℕ) (words : List ℕ) (old new : Pass) : Type 0 where
+-- the number is placed with its priority and the frame, and the run is in the hand no more
+pub record PlacesNext (g : Setup) (waits : Bool) (started : Started) (number : ℕ) (words : List ℕ) (priority : Priority) (old new : Pass) : Type 0 where
   pub found : ℕ
-  pub view_is : (run : Run) → RunAt g.plan started.unit (view old) run → view new ≡ saw (state started.unit) found (placed_next waits g.checked run number words (view old))
+  pub view_is : (run : Run) → RunAt g.plan started.unit (view old) run
+    → view new ≡ saw (state started.unit) found (logged (placing_of waits started.unit number priority words) (placed_next waits g.checked run number words (view old)))

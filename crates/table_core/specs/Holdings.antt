@@ -59,6 +59,12 @@ pub record Done : Type 0 where
   pub closed : Bool
   pub out : Bool
 
+-- a number that was placed: the record that has it, and the record's state word and frame then
+pub record Placing : Type 0 where
+  pub unit : ℕ
+  pub word : ℕ
+  pub words : List ℕ
+
 -- what is said of a root that was asked for
 pub data RootSays : Type 0 where
   Record : (unit : ℕ) → RootSays

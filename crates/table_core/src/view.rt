@@ -2,7 +2,7 @@ ghost use Rattle.std.specs.Prelude.{ℕ, List};
 ghost use Rattle.std.specs.Borrow.{ftrue};
 ghost use Rattle.task_meaning.specs.Worths.{Accepted};
 ghost use Rattle.table_core.specs.Addresses.{Addr};
-ghost use Rattle.table_core.specs.Holdings.{Place, Block, Look, Made, Waiter, Run, Done, RootSays, Sight};
+ghost use Rattle.table_core.specs.Holdings.{Place, Block, Look, Made, Waiter, Run, Done, Placing, RootSays, Sight};
 ghost use Rattle.table_core.specs.Asking.{Answer, Drawn, Owned};
 ghost use Rattle.table_core.specs.Story.{Fact};
 
@@ -49,6 +49,8 @@ pub struct View {
     // it took.
     pub ghost drawn: { List Drawn },
     pub ghost taken: { List ℕ },
+    // The numbers that it placed, the newest first.
+    pub ghost placings: { List Placing },
     // Numbers whose task or predecessor is not yet written, and stamps that are not.
     pub ghost no_task: { List ℕ },
     pub ghost no_after: { List ℕ },
