@@ -106,7 +106,7 @@ module _ (g : Setup) (x : Running) (request : AllRequest) (v : View) (q : Progra
     spawned-all future entry after m = by m.behind m.behind_is m.after_is m.gets
       where
         by : (o : Option Behind) → unit_behind o ≡ Some first → task_behind o ≡ after_in (Some m.call)
-            → GetsTask g x request.to (group_class (length units)) request.priority m.number m.call o v future entry after → HasSpawnedAll g x request v future entry after
+            → GetsTask g x request.to (group_class (length units)) request.priority m.number new.first.items m.call o v future entry after → HasSpawnedAll g x request v future entry after
         by None none after_is gets = absurd (none-some first none)
         by (Some b) some after_is gets = record {
           number = m.number;
@@ -115,8 +115,12 @@ module _ (g : Setup) (x : Running) (request : AllRequest) (v : View) (q : Progra
           behind = b;
           first_is = ap (λ (l : List (Option ℕ)). slice_get l 0) (sym units-all) ∙ at_map Some units 0 first there ∙ ap (λ (u : ℕ). Some (Some u)) (sym (same_Some b.unit first some));
           waits_for = first-there m.call_is.0 b.task (sym (after_is ∙ ap (λ (a : Accepted). after_in (Some a)) m.call_is.2));
-          gets = subst (λ (n : ℕ). GetsTask g x request.to (group_class n) request.priority m.number (OfAll m.call_is.0) (Some b) v future entry after) units-long
-              (subst (λ (a : Accepted). GetsTask g x request.to (group_class (length units)) request.priority m.number a (Some b) v future entry after) m.call_is.2 gets);
+          units = units;
+          units_are = sym units-all;
+          words = new.first.items;
+          frame = (frame g.checked).1;
+          gets = subst (λ (n : ℕ). GetsTask g x request.to (group_class n) request.priority m.number new.first.items (OfAll m.call_is.0) (Some b) v future entry after) units-long
+              (subst (λ (a : Accepted). GetsTask g x request.to (group_class (length units)) request.priority m.number new.first.items a (Some b) v future entry after) m.call_is.2 gets);
         }
 
     pub made-all : (told : Spawned) (after : View) → Makes g x (group_for request units first new) v told after → SpawnsAll g x request v told after

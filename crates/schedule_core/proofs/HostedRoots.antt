@@ -37,9 +37,11 @@ use Rattle.schedule_rule.specs.PlacingViews.{less}
 use Rattle.step_table.specs.Lookups.{made_in}
 use Rattle.step_table.specs.RecordHands.{HasFuture, MadeAt}
 use Rattle.step_table.specs.declared.record_tokens.Made.{Made}
+use Rattle.step_table.specs.PlacingSteps.{placing_of}
+use Rattle.schedule_core.specs.Making.{waits_behind}
 use Rattle.schedule_core.specs.Begins.{HasBegun, SawLimit}
-use Rattle.schedule_core.specs.Hosting.{IsNextRoot, IsBehindRoot, HaveRecords, HasHosted, MeetsLimit, Hosts, ReadsRoot, says_next}
-use Rattle.schedule_core.specs.NamedRoots.{ArePassedAs, IsPassedAs, HaveRootRecords, SawLast, TakesUnits}
+use Rattle.schedule_core.specs.Hosting.{ArePassedAs, IsPassedAs, IsNextRoot, IsBehindRoot, HaveRecords, HasHosted, MeetsLimit, Hosts, ReadsRoot, says_next}
+use Rattle.schedule_core.specs.NamedRoots.{HaveRootRecords, SawLast, TakesUnits}
 use Rattle.schedule_core.specs.References.{Grows, DropsEach, MayDropEach}
 use Rattle.schedule_core.specs.RootStages.{IsRootTask, MayPlaceRoot, NamesLimit, NamesTask, PlacesRoot, asking_root, root_placement, units_of_task}
 use Rattle.schedule_core.specs.SeenTasks.{task_seen, unit_behind}
@@ -317,7 +319,7 @@ module _ (g : Setup) (root : ℕ) (line : RootLine) (made : Made) (v : View) (ba
             })
 
     -- the task is there
-    has-hosted : (a n : View) (entry : Option Entry) → NamesTask g line.priority made x.behind (call_made (wanted.Call line.kind x.passed.items) x.behind z.sights) z entry a → DropsEach units a n → HasHosted g line asked base entry n
+    has-hosted : (a n : View) (entry : Option Entry) → NamesTask g line.priority made x.behind x.first.items (call_made (wanted.Call line.kind x.passed.items) x.behind z.sights) z entry a → DropsEach units a n → HasHosted g line asked base entry n
     has-hosted a n entry names drops = record {
       unit = u;
       number = names.number;
@@ -335,6 +337,10 @@ module _ (g : Setup) (root : ℕ) (line : RootLine) (made : Made) (v : View) (ba
             (enters-more u names.number line.priority x.behind entry (drops.seen.0 ++ names.placed.steps) takes.steps
             (enters-later u names.number line.priority x.behind entry drops.seen.0 names.placed.steps drops.elsewhere names.placed.enters));
       };
+      passed = x.passed.items;
+      passes = is_task.passes;
+      words = x.first.items;
+      first = is_task.entry;
       reads = λ k r at. read-more begun.seen.0 (drops.seen.0 ++ names.placed.steps) r (read-roots k r at);
       looks = (begun.looks.0, ap (λ (y : View). y.looks) whole ∙ begun.looks.1);
       facts = grows-on base.facts z.facts n.facts facts-taken (names.facts.0, ap (λ (y : View). y.facts) drops.view_is ∙ names.facts.1);
@@ -346,6 +352,7 @@ module _ (g : Setup) (root : ℕ) (line : RootLine) (made : Made) (v : View) (ba
         wins = place (superblock_of g.plan u) class ∷ base.wins;
         settles = n.settles;
         may_draw = 0;
+        placings = placing_of (waits_behind x.behind) u names.number line.priority x.first.items ∷ base.placings;
         looks = (sym whole k).looks;
         known = (sym whole k).known;
         sights = n.sights;
@@ -366,6 +373,7 @@ module _ (g : Setup) (root : ℕ) (line : RootLine) (made : Made) (v : View) (ba
           wins = place (superblock_of g.plan u) class ∷ base.wins;
           settles = n.settles;
           may_draw = 0;
+          placings = placing_of (waits_behind x.behind) u names.number line.priority x.first.items ∷ base.placings;
           looks = v.looks;
           known = a.known;
           sights = n.sights;
@@ -381,6 +389,7 @@ module _ (g : Setup) (root : ℕ) (line : RootLine) (made : Made) (v : View) (ba
               calls = (names.number, call_made (wanted.Call line.kind x.passed.items) x.behind z.sights) ∷ (taken-is k).calls;
               settles = n.settles;
               may_draw = 0;
+              placings = placing_of (waits_behind x.behind) u names.number line.priority x.first.items ∷ (taken-is k).placings;
               known = a.known;
               sights = n.sights;
               facts = a.facts;

@@ -19,8 +19,8 @@ use Rattle.table_core.specs.declared.setup.Setup.{Setup}
 use Rattle.table_core.specs.declared.view.View.{View}
 use Rattle.step_table.specs.declared.record_tokens.Made.{Made}
 use Rattle.schedule_core.specs.Begins.{HasBegun}
-use Rattle.schedule_core.specs.Hosting.{IsNextRoot, HaveRecords, Hosts}
-use Rattle.schedule_core.specs.NamedRoots.{ArePassedAs, HaveRootRecords, PassesRoots, TakesBehind, TakesUnits}
+use Rattle.schedule_core.specs.Hosting.{IsNextRoot, HaveRecords, Hosts, ArePassedAs}
+use Rattle.schedule_core.specs.NamedRoots.{HaveRootRecords, PassesRoots, TakesBehind, TakesUnits}
 use Rattle.schedule_core.specs.References.{DropsEach, MayDropEach}
 use Rattle.schedule_core.specs.RootStages.{IsRootTask, MayPlaceRoot, PlacesRoot, asking_root, root_placement, units_of_task}
 use Rattle.schedule_core.specs.SeenTasks.{unit_behind}

@@ -17,10 +17,10 @@ use Rattle.table_core.specs.declared.setup.Setup.{Setup}
 use Rattle.table_core.specs.declared.view.View.{View}
 use Rattle.schedule_rule.specs.Frames.{BagSound}
 use Rattle.schedule_rule.specs.LifeViews.{answers_left}
-use Rattle.schedule_rule.specs.PlacingViews.{less, kept_sights, is_drawn}
+use Rattle.schedule_rule.specs.PlacingViews.{less, kept_sights, is_drawn, logged}
 use Rattle.schedule_rule.proofs.PlacingFacts.{times-less}
 use Rattle.step_table.specs.Lookups.{run_in, waiter_in}
-use Rattle.step_table.specs.PlacingSteps.{placed_next}
+use Rattle.step_table.specs.PlacingSteps.{placed_next, placing_of}
 use Rattle.step_table.specs.RecordHands.{RunAt, HasFuture, MayLessen}
 use Rattle.wait_lists.specs.Joining.{MayJoin}
 use Rattle.schedule_core.specs.Making.{Enters, EntersClosed, JoinsBehind}
@@ -57,15 +57,16 @@ module _ (g : Setup) (u n b t found : ℕ) (words : List ℕ) (v cloned w : View
     times-less b cloned.futures names may_cloned.spare.there,
   )
 
-  module _ (at_state : ℕ) (x : View) (tells : (run : Run) → RunAt g.plan u w run → x ≡ saw (state u) at_state (placed_next true p run n words w)) where
+  module _ (priority : Priority) (at_state : ℕ) (x : View)
+      (tells : (run : Run) → RunAt g.plan u w run → x ≡ saw (state u) at_state (logged (placing_of true u n priority words) (placed_next true p run n words w))) where
     abbrev the_run : Run
     the_run = may.run
 
     sights-left : x.sights ≡ kept_sights (less cloned.futures names) cloned.sights
-    sights-left = placed-sights g u n (Some t) words cloned may_cloned w wrote true at_state x tells the_run (at-cloned the_run may.at)
+    sights-left = placed-sights g u n (Some t) words cloned may_cloned w wrote true priority at_state x tells the_run (at-cloned the_run may.at)
 
     facts-left : x.facts ≡ v.facts
-    facts-left = placed-facts g u n (Some t) words cloned may_cloned w wrote true at_state x tells the_run (at-cloned the_run may.at) ∙ ap (λ (z : View). z.facts) is
+    facts-left = placed-facts g u n (Some t) words cloned may_cloned w wrote true priority at_state x tells the_run (at-cloned the_run may.at) ∙ ap (λ (z : View). z.facts) is
 
     placed : (run : Run) (at : RunAt g.plan u v run) → x ≡ record cloned {
       runs = dropped (is_run_at u) cloned.runs;
@@ -74,10 +75,11 @@ module _ (g : Setup) (u n b t found : ℕ) (words : List ℕ) (v cloned w : View
       futures = less cloned.futures names;
       sights = x.sights;
       drawn = dropped (is_drawn n) cloned.drawn;
+      placings = placing_of true u n priority words ∷ cloned.placings;
       answers = answers_left run.task cloned.answers;
       seen = x.seen;
     }
-    placed run at = placed-view g u n (Some t) words cloned may_cloned w wrote true at_state x tells run (at-cloned run at)
+    placed run at = placed-view g u n (Some t) words cloned may_cloned w wrote true priority at_state x tells run (at-cloned run at)
 
     futures-left : x.futures ≡ less cloned.futures names
     futures-left = ap (λ (z : View). z.futures) (placed the_run may.at)
@@ -86,7 +88,7 @@ module _ (g : Setup) (u n b t found : ℕ) (words : List ℕ) (v cloned w : View
     steps-left = ((state u, at_state) ∷ wrote.seen.0) ++ (refs b, found) ∷ []
 
     seen-left : x.seen ≡ steps-left ++ v.seen
-    seen-left = placed-seen g u n (Some t) words cloned may_cloned w wrote true at_state x tells the_run (at-cloned the_run may.at)
+    seen-left = placed-seen g u n (Some t) words cloned may_cloned w wrote true priority at_state x tells the_run (at-cloned the_run may.at)
         ∙ ap (λ (z : View). ((state u, at_state) ∷ wrote.seen.0) ++ z.seen) is
         ∙ sym (append_assoc ((state u, at_state) ∷ wrote.seen.0) ((refs b, found) ∷ []) v.seen)
 
@@ -142,22 +144,22 @@ module _ (g : Setup) (u n b t found : ℕ) (words : List ℕ) (v cloned w : View
         seen-all : z.seen ≡ steps-all ++ v.seen
         seen-all = gives.seen.1 ∙ ap (λ (l : List (Addr × ℕ)). gives.seen.0 ++ l) seen-joined ∙ sym (append_assoc gives.seen.0 steps-joined v.seen)
 
-        enters-joined : (priority : Priority) (task : ℕ) (o : Option Entry) → EntersClosed u b x o joined.steps → Enters u n priority (Some (record { unit = b; task = task })) o steps-joined
-        enters-joined priority task None opened = (
+        enters-joined : (task : ℕ) (o : Option Entry) → EntersClosed u b x o joined.steps → Enters u n priority (Some (record { unit = b; task = task })) o steps-joined
+        enters-joined task None opened = (
           record { unit = b; task = task },
           refl,
           record { later = joined.steps; before = wrote.seen.0 ++ (refs b, found) ∷ []; found = at_state; parts = refl; unclosed = opened },
         )
-        enters-joined priority task (Some e) enters = (
+        enters-joined task (Some e) enters = (
           enters.0,
           enters.1 (new_waiter u n) (ap (λ (s : View). waiter_in u s.waiting) (placed the_run may.at) ∙ ap (λ (c : Bool). cond c (Some (new_waiter u n)) (waiter_in u cloned.waiting)) (eq-eqb u u refl)),
           inr (record { unit = b; task = task }, refl, closed-more u b e joined.steps steps-left enters.2),
         )
 
-        enters-all : (priority : Priority) (task : ℕ) → Enters u n priority (Some (record { unit = b; task = task })) told steps-all
-        enters-all priority task = enters-later u n priority (Some (record { unit = b; task = task })) told gives.seen.0 steps-joined gives.elsewhere (enters-joined priority task told joined.enters)
+        enters-all : (task : ℕ) → Enters u n priority (Some (record { unit = b; task = task })) told steps-all
+        enters-all task = enters-later u n priority (Some (record { unit = b; task = task })) told gives.seen.0 steps-joined gives.elsewhere (enters-joined task told joined.enters)
 
-        view-placed : IsPlacedAgain g u n words v z
+        view-placed : IsPlacedAgain g u n words (placing_of true u n priority words) v z
         view-placed run at = all ∙ (λ k. record v {
           runs = dropped (is_run_at u) v.runs;
           waiting = gone v.waiting k;
@@ -165,6 +167,7 @@ module _ (g : Setup) (u n b t found : ℕ) (words : List ℕ) (v cloned w : View
           futures = less-added b v.futures names k;
           sights = (sym all k).sights;
           drawn = dropped (is_drawn n) v.drawn;
+          placings = placing_of true u n priority words ∷ v.placings;
           answers = answers_left run.task v.answers;
           facts = (sym all k).facts;
           settles = (sym all k).settles;
@@ -179,6 +182,7 @@ module _ (g : Setup) (u n b t found : ℕ) (words : List ℕ) (v cloned w : View
               futures = dropped (is_at b) (less (b ∷ v.futures) names);
               sights = z.sights;
               drawn = dropped (is_drawn n) v.drawn;
+              placings = placing_of true u n priority words ∷ v.placings;
               answers = answers_left run.task v.answers;
               facts = y.facts;
               settles = z.settles;
@@ -203,6 +207,7 @@ module _ (g : Setup) (u n b t found : ℕ) (words : List ℕ) (v cloned w : View
                   futures = dropped (is_at b) (less (is k).futures names);
                   sights = z.sights;
                   drawn = dropped (is_drawn n) (is k).drawn;
+                  placings = placing_of true u n priority words ∷ (is k).placings;
                   answers = answers_left run.task (is k).answers;
                   facts = y.facts;
                   tries = y.tries;
@@ -211,11 +216,11 @@ module _ (g : Setup) (u n b t found : ℕ) (words : List ℕ) (v cloned w : View
                 })
 
         -- it is placed
-        pub placed-behind : (priority : Priority) (task : ℕ) → PlacesAgain g u n priority (Some (record { unit = b; task = task })) words v told z
-        placed-behind priority task = record {
+        pub placed-behind : (task : ℕ) → PlacesAgain g u n priority (Some (record { unit = b; task = task })) words v told z
+        placed-behind task = record {
           steps = steps-all;
           since = seen-all;
-          enters = enters-all priority task;
+          enters = enters-all task;
           facts = (joined.facts.0, ap (λ (s : View). s.facts) gives.view_is ∙ joined.facts.1 ∙ ap (λ (l : List Fact). joined.facts.0 ++ l) facts-left);
           settles = (gives.settles.0, gives.settles.1 ∙ ap (λ (s : View). gives.settles.0 ++ s.settles) joined.view_is ∙ ap (λ (s : View). gives.settles.0 ++ s.settles) (placed the_run may.at) ∙ ap (λ (s : View). gives.settles.0 ++ s.settles) is);
           view_is = view-placed;

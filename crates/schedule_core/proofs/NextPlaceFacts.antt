@@ -20,11 +20,11 @@ use Rattle.table_core.specs.declared.view.View.{View}
 use Rattle.schedule_rule.specs.DrawViews.{drawn_for}
 use Rattle.schedule_rule.specs.Frames.{BagSound}
 use Rattle.schedule_rule.specs.LifeViews.{answers_left}
-use Rattle.schedule_rule.specs.PlacingViews.{less, kept_sights, is_drawn, waiting_with, MayStartUnless}
+use Rattle.schedule_rule.specs.PlacingViews.{less, kept_sights, is_drawn, waiting_with, MayStartUnless, logged}
 use Rattle.schedule_rule.proofs.CoveringFacts.{more-cover}
 use Rattle.schedule_rule.proofs.PlacingFacts.{times-less}
 use Rattle.step_table.specs.Lookups.{run_in}
-use Rattle.step_table.specs.PlacingSteps.{word_placed, placed_next, MayPlaceNext}
+use Rattle.step_table.specs.PlacingSteps.{word_placed, placed_next, placing_of, MayPlaceNext}
 use Rattle.step_table.specs.RecordHands.{RunAt}
 use Rattle.step_table.specs.declared.record_tokens.OwnWord.TheVariants as own_word
 use Rattle.step_table.specs.declared.record_tokens.Started.{Started}
@@ -115,12 +115,13 @@ module _ (g : Setup) (u n : ℕ) (after : Option ℕ) (words : List ℕ) (v : Vi
       covers = λ was. subst (BagSound p) (λ k. record { futures = less (sym wrote.view_is k).futures names; runs = dropped (is_run_at (sym run-unit k)) (sym wrote.view_is k).runs }) may.spare.bag;
     }
 
-    module _ (waits : Bool) (found : ℕ) (x : View) (tells : (run : Run) → RunAt g.plan u w run → x ≡ saw (state u) found (placed_next waits p run n words w)) (run : Run) (at : RunAt g.plan u v run) where
+    module _ (waits : Bool) (priority : Priority) (found : ℕ) (x : View)
+        (tells : (run : Run) → RunAt g.plan u w run → x ≡ saw (state u) found (logged (placing_of waits u n priority words) (placed_next waits p run n words w))) (run : Run) (at : RunAt g.plan u v run) where
       its-unit : run.unit ≡ u
       its-unit = (run-there u v.runs run at.there).1
 
-      raw : x ≡ saw (state u) found (placed_next waits p run n words (record v { known = w.known; seen = w.seen }))
-      raw = tells run (at-written run at) ∙ (λ k. saw (state u) found (placed_next waits p run n words (wrote.view_is k)))
+      raw : x ≡ saw (state u) found (logged (placing_of waits u n priority words) (placed_next waits p run n words (record v { known = w.known; seen = w.seen })))
+      raw = tells run (at-written run at) ∙ (λ k. saw (state u) found (logged (placing_of waits u n priority words) (placed_next waits p run n words (wrote.view_is k))))
 
       -- what was seen of records is kept where a reference to them is left
       pub placed-sights : x.sights ≡ kept_sights (less v.futures names) v.sights
@@ -140,6 +141,7 @@ module _ (g : Setup) (u n : ℕ) (after : Option ℕ) (words : List ℕ) (v : Vi
         futures = less v.futures names;
         sights = x.sights;
         drawn = dropped (is_drawn n) v.drawn;
+        placings = placing_of waits u n priority words ∷ v.placings;
         answers = answers_left run.task v.answers;
         seen = x.seen;
       }
@@ -150,27 +152,29 @@ module _ (g : Setup) (u n : ℕ) (after : Option ℕ) (words : List ℕ) (v : Vi
         futures = less v.futures names;
         sights = (sym raw k).sights;
         drawn = dropped (is_drawn n) v.drawn;
+        placings = placing_of waits u n priority words ∷ v.placings;
         answers = answers_left run.task v.answers;
         seen = (sym raw k).seen;
       })
 
     -- the activation is ready
-    pub placed-ready : (priority : Priority) (word : StateWord) (found : ℕ) (x : View) → ((run : Run) → RunAt g.plan u w run → x ≡ saw (state u) found (placed_next false p run n words w))
+    pub placed-ready : (priority : Priority) (word : StateWord) (found : ℕ) (x : View) → ((run : Run) → RunAt g.plan u w run → x ≡ saw (state u) found (logged (placing_of false u n priority words) (placed_next false p run n words w)))
         → word ≡ word_placed false n priority → PlacesAgain g u n priority None words v (Some (entry_of u word)) x
     placed-ready priority word found x tells is =
         record {
           steps = (state u, found) ∷ wrote.seen.0;
-          since = placed-seen false found x tells may.run may.at;
+          since = placed-seen false priority found x tells may.run may.at;
           enters = (refl, ap (λ (z : StateWord). z.number) is, inl (refl, priority-back priority word n is));
-          facts = ([], placed-facts false found x tells may.run may.at);
-          settles = ([], ap (λ (z : View). z.settles) (placed-view false found x tells may.run may.at));
-          view_is = λ run at. let view = placed-view false found x tells run at in
+          facts = ([], placed-facts false priority found x tells may.run may.at);
+          settles = ([], ap (λ (z : View). z.settles) (placed-view false priority found x tells may.run may.at));
+          view_is = λ run at. let view = placed-view false priority found x tells run at in
               view ∙ (λ k. record v {
                 runs = dropped (is_run_at u) v.runs;
                 known = (sym view k).known;
                 futures = less v.futures names;
                 sights = (sym view k).sights;
                 drawn = dropped (is_drawn n) v.drawn;
+                placings = placing_of false u n priority words ∷ v.placings;
                 answers = answers_left run.task v.answers;
                 facts = (sym view k).facts;
                 settles = (sym view k).settles;

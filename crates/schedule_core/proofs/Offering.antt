@@ -24,13 +24,13 @@ use Rattle.schedule_rule.specs.LifeViews.{count_in, KnowsOver}
 use Rattle.schedule_rule.specs.PlacingViews.{is_drawn, less, WasSeenAs, WereSeenAs, IsFirstFrame, IsPlaceable, MayStartUnless}
 use Rattle.step_table.specs.Lookups.{made_in, run_in}
 use Rattle.step_table.specs.Passes.{view}
-use Rattle.step_table.specs.PlacingSteps.{Placement, PlacedFor, ForRun, ForRoot, IsFor, runs_past, placed_made, MayPlaceMade}
+use Rattle.step_table.specs.PlacingSteps.{Placement, PlacedFor, ForRun, ForRoot, IsFor, runs_past, placed_made, placing_of, MayPlaceMade}
 use Rattle.step_table.specs.RecordHands.{MadeAt}
 use Rattle.step_table.specs.declared.pass.Pass.{Pass}
 use Rattle.step_table.specs.declared.record_tokens.Future.{Future}
 use Rattle.step_table.specs.declared.record_tokens.Made.{Made}
 use Rattle.step_table.proofs.LookupFacts.{made-there}
-use Rattle.schedule_core.specs.Making.{MayOffer, FillsNew, MayPlaceNew, PlacesNew, Offers, KnowsPredecessor, task_behind}
+use Rattle.schedule_core.specs.Making.{MayOffer, FillsNew, MayPlaceNew, PlacesNew, Offers, KnowsPredecessor, task_behind, waits_behind}
 use Rattle.schedule_core.specs.declared.making.Behind.{Behind}
 use Rattle.schedule_core.proofs.ChangedRuns.{dropped-changed, first-changed}
 use Rattle.schedule_core.proofs.LessFacts.{less-front}
@@ -182,6 +182,7 @@ module _ (g : Setup) (made : Made) (number : ℕ) (behind : Option Behind) (word
     view_is = placed.view_is
         ∙ (λ k. record (placed_made false g.checked made number x (fills.view_is k)) {
           futures = u ∷ left k;
+          placings = placing_of (waits_behind behind) u number priority x.words ∷ (fills.view_is k).placings;
           known = new_known k;
           facts = new.facts;
           sights = new.sights;
@@ -193,6 +194,7 @@ module _ (g : Setup) (made : Made) (number : ℕ) (behind : Option Behind) (word
           runs = runs_past x.asked v.runs;
           futures = u ∷ v.futures;
           drawn = dropped (is_drawn number) v.drawn;
+          placings = placing_of (waits_behind behind) u number priority x.words ∷ v.placings;
           no_task = dropped (is_at number) v.no_task;
           no_after = dropped (is_at number) v.no_after;
           known = new.known;

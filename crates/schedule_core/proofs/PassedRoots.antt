@@ -19,8 +19,8 @@ use Rattle.table_core.proofs.ListFacts.{same_some}
 use Rattle.step_table.specs.Passes.{view, IsSameWith}
 use Rattle.step_table.specs.RootSteps.{HasRootRecord}
 use Rattle.step_table.specs.declared.pass.Pass.{Pass}
-use Rattle.schedule_core.specs.Hosting.{IsBehindRoot}
-use Rattle.schedule_core.specs.NamedRoots.{HaveRootRecords, IsPassedAs, PassesRoot, PassesRoots, TakesBehind, TakesRoot, TakesUnits}
+use Rattle.schedule_core.specs.Hosting.{IsBehindRoot, IsPassedAs}
+use Rattle.schedule_core.specs.NamedRoots.{HaveRootRecords, PassesRoot, PassesRoots, TakesBehind, TakesRoot, TakesUnits}
 use Rattle.schedule_core.specs.declared.making.Behind.{Behind}
 use Rattle.schedule_core.proofs.EachFacts.{part-has, same-on}
 use Rattle.schedule_core.proofs.TakenUnits.{takes-none, takes-then}

@@ -18,7 +18,7 @@ use Rattle.table_core.specs.declared.view.View.{View}
 use Rattle.schedule_rule.specs.SoundViews.{SoundView}
 use Rattle.step_table.specs.Lookups.{waiter_in}
 use Rattle.step_table.specs.Passes.{view}
-use Rattle.step_table.specs.PlacingSteps.{Placement, placed_made, word_placed, PlacesMade}
+use Rattle.step_table.specs.PlacingSteps.{Placement, placed_made, placing_of, word_placed, PlacesMade}
 use Rattle.step_table.specs.RecordHands.{HasFuture}
 use Rattle.step_table.specs.declared.pass.Pass.{Pass}
 use Rattle.step_table.specs.declared.record_tokens.Future.{Future}
@@ -26,7 +26,7 @@ use Rattle.step_table.specs.declared.record_tokens.Made.{Made}
 use Rattle.wait_lists.specs.Joining.{MayJoin}
 use Rattle.wait_lists.proofs.JoinFacts.{has-behind}
 use Rattle.schedule_core.specs.Entries.{entry_of, priority_at}
-use Rattle.schedule_core.specs.Making.{MayPlaceNew, Enters, EntersClosed, FoundClosed, FoundDrawn, FoundOpen, JoinsBehind, PlacesNew, StaysOpen}
+use Rattle.schedule_core.specs.Making.{MayPlaceNew, Enters, EntersClosed, FoundClosed, FoundDrawn, FoundOpen, JoinsBehind, PlacesNew, StaysOpen, waits_behind}
 use Rattle.schedule_core.specs.References.{NoHeads}
 use Rattle.schedule_core.specs.declared.making.Behind.{Behind}
 use Rattle.schedule_core.proofs.EachFacts.{has-either}
@@ -112,15 +112,15 @@ pub drawn-later : (number : ℕ) (front steps : List (Addr × ℕ)) → FoundDra
 drawn-later number front steps (found, is, has) = (found, is, has-behind (sum 0, found) front steps has)
 
 -- what was seen is kept of records to which a reference is left
-kept-placed : (waits : Bool) (g : Setup) (made : Made) (number : ℕ) (x : Placement) (old new : Pass) → PlacesMade g waits made number x old new → (s : Sight) → Has s (view old).sights
+kept-placed : (waits : Bool) (g : Setup) (made : Made) (number : ℕ) (priority : Priority) (x : Placement) (old new : Pass) → PlacesMade g waits made number priority x old new → (s : Sight) → Has s (view old).sights
     → 1 ≤ times (seen_at s) (view new).futures → Has s (view new).sights
-kept-placed waits g made number x old new places s has some =
+kept-placed waits g made number priority x old new places s has some =
     let t = kept-has (placed_made waits g.checked made number x (view old)).futures (view old).sights s (subst (λ (v : View). 1 ≤ times (seen_at s) v.futures) places.view_is some) has in
     subst (λ (v : View). Has s v.sights) (sym places.view_is) (suc t.0, t.1)
 
 -- the record is ready, behind no task
 pub places-ready : (g : Setup) (made : Made) (number unit : ℕ) (behind : Option Behind) (x : Placement) (priority : Priority) (old new : Pass) (word : StateWord) (future : Future) → behind ≡ None → unit ≡ made.unit
-    → word ≡ word_placed false number priority → future.unit ≡ made.unit → PlacesMade g false made number x old new → SoundView g (view new)
+    → word ≡ word_placed false number priority → future.unit ≡ made.unit → PlacesMade g false made number priority x old new → SoundView g (view new)
     → PlacesNew g made number priority behind x (view old) (future, Some (entry_of unit word)) (view new)
 places-ready g made number unit behind x priority old new word future none unit_is word_is future_is places sound = record {
   future_is = future_is;
@@ -129,10 +129,11 @@ places-ready g made number unit behind x priority old new word future none unit_
   enters = (unit_is, ap (λ (w : StateWord). w.number) word_is, inl (none, priority-back priority word number word_is));
   facts = ([], ap (λ (v : View). v.facts) places.view_is);
   sees = (0, ap (λ (v : View). slice_get v.sights 0) places.view_is);
-  kept = kept-placed false g made number x old new places;
+  kept = kept-placed false g made number priority x old new places;
   sound = sound;
   view_is = places.view_is
       ∙ (λ k. record (placed_made false g.checked made number x (view old)) {
+        placings = placing_of (waits_behind (sym none k)) made.unit number priority x.words ∷ (view old).placings;
         facts = (sym places.view_is k).facts;
         sights = (sym places.view_is k).sights;
         tries = (sym places.view_is k).tries;
@@ -140,7 +141,7 @@ places-ready g made number unit behind x priority old new word future none unit_
       });
 }
 
-module _ (g : Setup) (made : Made) (number : ℕ) (x : Placement) (b : Behind) (old mid : Pass) (places : PlacesMade g true made number x old mid) where
+module _ (g : Setup) (made : Made) (number : ℕ) (priority : Priority) (x : Placement) (b : Behind) (old mid : Pass) (places : PlacesMade g true made number priority x old mid) where
   abbrev u : ℕ
   u = made.unit
 
@@ -175,15 +176,15 @@ module _ (g : Setup) (made : Made) (number : ℕ) (x : Placement) (b : Behind) (
   gone = ap (λ (t : Bool). cond t (view old).waiting (new_waiter u number ∷ dropped (is_waiter_at u) (view old).waiting)) (eq-eqb u u refl)
 
   -- the record waits, or is ready where the list is closed
-  pub places-waiting : (priority : Priority) (behind : Option Behind) (told : Option Entry) (future : Future) (unit : ℕ) (new : View) → behind ≡ Some b → unit ≡ u → future.unit ≡ u → JoinsBehind g unit b (view mid) told new
+  pub places-waiting : (behind : Option Behind) (told : Option Entry) (future : Future) (unit : ℕ) (new : View) → behind ≡ Some b → unit ≡ u → future.unit ≡ u → JoinsBehind g unit b (view mid) told new
       → PlacesNew g made number priority behind x (view old) (future, told) new
-  places-waiting priority behind told future unit new is unit_is future_is joined' = record {
+  places-waiting behind told future unit new is unit_is future_is joined' = record {
     future_is = future_is;
     steps = joined.steps ++ ((state u, places.found) ∷ []);
     since = joined.since ∙ ap (λ (v : View). joined.steps ++ v.seen) places.view_is ∙ sym (append_assoc joined.steps ((state u, places.found) ∷ []) (view old).seen);
     enters = by told joined.enters;
     facts = (joined.facts.0, joined.facts.1 ∙ ap (λ (v : View). joined.facts.0 ++ v.facts) places.view_is);
-    kept = λ s has some. has-grown s (view mid).sights new.sights joined.sights.0 joined.sights.1 (kept-placed true g made number x old mid places s has
+    kept = λ s has some. has-grown s (view mid).sights new.sights joined.sights.0 joined.sights.1 (kept-placed true g made number priority x old mid places s has
         (subst (λ (l : List ℕ). 1 ≤ times (seen_at s) l) (ap (λ (v : View). v.futures) joined.view_is) some));
     sees = has-grown (SawTask u number) (view mid).sights new.sights joined.sights.0 joined.sights.1 its-task;
     sound = joined.sound;
@@ -195,7 +196,14 @@ module _ (g : Setup) (made : Made) (number : ℕ) (x : Placement) (b : Behind) (
           tries = new.tries;
           seen = new.seen;
         })
-        ∙ (λ k. record (placed_made false g.checked made number x (view old)) { waiting = gone k; facts = new.facts; sights = new.sights; tries = new.tries; seen = new.seen });
+        ∙ (λ k. record (placed_made false g.checked made number x (view old)) {
+          waiting = gone k;
+          placings = placing_of (waits_behind (sym is k)) u number priority x.words ∷ (view old).placings;
+          facts = new.facts;
+          sights = new.sights;
+          tries = new.tries;
+          seen = new.seen;
+        });
   }
     where
       joined : JoinsBehind g u b (view mid) told new

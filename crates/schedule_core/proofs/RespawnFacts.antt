@@ -46,7 +46,8 @@ use Rattle.schedule_rule.proofs.PlacingFactsFrames.{next-short}
 use Rattle.step_table.specs.Lookups.{run_in}
 use Rattle.step_table.specs.RecordHands.{RunAt, HasFuture}
 use Rattle.step_table.proofs.LookupFacts.{run-there}
-use Rattle.schedule_core.specs.Making.{task_behind}
+use Rattle.step_table.specs.PlacingSteps.{placing_of}
+use Rattle.schedule_core.specs.Making.{task_behind, waits_behind}
 use Rattle.schedule_core.specs.SeenTasks.{unit_behind}
 use Rattle.schedule_core.specs.NextNumbers.{IsNextUnit, HasNumber, MetLimitNext, SawBehind}
 use Rattle.schedule_core.specs.NextPlaces.{MayPlaceBehind, PlacesAgain}
@@ -241,6 +242,7 @@ module _ (g : Setup) (x : Running) (wanted : Option ℕ) (number : ℕ) (behind 
         futures = less v.futures names;
         sights = z.sights;
         drawn = dropped (is_drawn number) v.drawn;
+        placings = placing_of (waits_behind behind) u number priority next ∷ v.placings;
         answers = answers_left asker.task v.answers;
         facts = z.facts;
         settles = z.settles;
@@ -273,8 +275,8 @@ module _ (g : Setup) (x : Running) (wanted : Option ℕ) (number : ℕ) (behind 
         )
 
         -- the task goes on
-        pub gone-on : HasRespawned g x wanted priority base told e
-        gone-on = record {
+        pub gone-on : (IsNext : List ℕ → Type 0) → IsNext next → HasRespawned g x wanted priority IsNext base told e
+        gone-on IsNext is_one = record {
           number = number;
           behind = behind;
           behind_is = has.behind_is;
@@ -286,6 +288,8 @@ module _ (g : Setup) (x : Running) (wanted : Option ℕ) (number : ℕ) (behind 
             drawn = drawn-later number drops.seen.0 (places.steps ++ has.steps) (drawn-later number places.steps has.steps has.drawn);
             enters = enters-later u number priority behind told drops.seen.0 (places.steps ++ has.steps) drops.elsewhere (enters-more u number priority behind told places.steps has.steps places.enters);
           };
+          words = next;
+          next = is_one;
           saw = saw-more behind drops.seen.0 (places.steps ++ has.steps) (saw-more behind places.steps has.steps has.saw);
           facts = (
             places.facts.0 ++ has.facts.0,
@@ -300,6 +304,7 @@ module _ (g : Setup) (x : Running) (wanted : Option ℕ) (number : ℕ) (behind 
             drawn = drawn-gone k;
             calls = (number, Respawn x.task (task_behind behind)) ∷ base.calls;
             may_draw = 0;
+            placings = placing_of (waits_behind behind) u number priority next ∷ base.placings;
             answers = answers_left (in_step.task_is k) base.answers;
             facts = (sym all k).facts;
             settles = (sym all k).settles;
@@ -322,6 +327,7 @@ module _ (g : Setup) (x : Running) (wanted : Option ℕ) (number : ℕ) (behind 
               drawn = dropped (is_drawn number) (drawn_for number u (OfTask x.task) ∷ base.drawn);
               calls = (number, Respawn x.task (task_behind behind)) ∷ base.calls;
               may_draw = 0;
+              placings = placing_of (waits_behind behind) u number priority next ∷ base.placings;
               answers = answers_left in_step.run.task base.answers;
               facts = z.facts;
               settles = e.settles;
@@ -336,6 +342,7 @@ module _ (g : Setup) (x : Running) (wanted : Option ℕ) (number : ℕ) (behind 
                   futures = less (less (has.view_is k).futures names) given;
                   sights = e.sights;
                   drawn = dropped (is_drawn number) (has.view_is k).drawn;
+                  placings = placing_of (waits_behind behind) u number priority next ∷ (has.view_is k).placings;
                   answers = answers_left in_step.run.task (has.view_is k).answers;
                   facts = z.facts;
                   settles = e.settles;

@@ -23,9 +23,9 @@ use Rattle.table_core.specs.Lists.{Each}
 use Rattle.table_core.specs.declared.view.View.{View}
 use Rattle.table_core.proofs.ListFacts.{at_map, same_some}
 use Rattle.schedule_rule.specs.DrawViews.{IsRootCall, KnowsRoots}
-use Rattle.schedule_core.specs.Hosting.{IsBehindRoot}
+use Rattle.schedule_core.specs.Hosting.{IsBehindRoot, ArePassedAs, IsPassedAs}
 use Rattle.schedule_core.specs.Making.{task_behind}
-use Rattle.schedule_core.specs.NamedRoots.{ArePassedAs, IsPassedAs, SawLast}
+use Rattle.schedule_core.specs.NamedRoots.{SawLast}
 use Rattle.schedule_core.specs.RootStages.{IsRootTask, units_of_task}
 use Rattle.schedule_core.specs.SeenTasks.{task_seen, unit_behind}
 use Rattle.schedule_core.specs.NewTasks.{call_made, task_passed}

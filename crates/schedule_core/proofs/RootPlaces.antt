@@ -33,7 +33,7 @@ use Rattle.schedule_rule.proofs.CoveringFacts.{more-cover}
 use Rattle.schedule_rule.proofs.PlacingFactsFrames.{first-fits}
 use Rattle.step_table.specs.DrawSteps.{DrewNumber, IsNewNumber, MayDrawForRoot}
 use Rattle.step_table.specs.Passes.{view}
-use Rattle.step_table.specs.PlacingSteps.{Placement, PlacedFor, ForRoot, IsFor, runs_past}
+use Rattle.step_table.specs.PlacingSteps.{Placement, PlacedFor, ForRoot, IsFor, runs_past, placing_of}
 use Rattle.step_table.specs.RecordHands.{HasFuture, MayUnmake}
 use Rattle.step_table.specs.RootSteps.{MayAsk, Names}
 use Rattle.step_table.specs.declared.pass.Pass.{Pass}
@@ -41,7 +41,7 @@ use Rattle.step_table.specs.declared.record_tokens.Future.{Future}
 use Rattle.step_table.specs.declared.record_tokens.Made.{Made}
 use Rattle.step_table.specs.declared.roots.RootWord.TheVariants as word
 use Rattle.schedule_core.specs.Hosting.{says_next}
-use Rattle.schedule_core.specs.Making.{MayFillNew, MayOffer, Offers, KnowsPredecessor, task_behind}
+use Rattle.schedule_core.specs.Making.{MayFillNew, MayOffer, Offers, KnowsPredecessor, task_behind, waits_behind}
 use Rattle.schedule_core.specs.NamedRoots.{SawLast}
 use Rattle.schedule_core.specs.Numbers.{GaveBack}
 use Rattle.schedule_core.specs.References.{HasEach}
@@ -268,7 +268,7 @@ module _ (g : Setup) (root : ℕ) (line : RootLine) (made : Made) (x : RootTask)
       runs = ap (λ (y : View). y.runs) offers.view_is ∙ ap (λ (a : PlacedFor). runs_past a v.runs) (ap (λ (y : Placement). y.asked) m.placement_is)
 
   -- and then it is
-  pub names-task : (new : Pass) → n ≡ found + 1 → Names root (word.Record future) mid new → NamesTask g line.priority made x.behind placement.call v entry (view new)
+  pub names-task : (new : Pass) → n ≡ found + 1 → Names root (word.Record future) mid new → NamesTask g line.priority made x.behind x.first.items placement.call v entry (view new)
   names-task new is_next names = record {
     number = n;
     placed = record {
@@ -292,6 +292,7 @@ module _ (g : Setup) (root : ℕ) (line : RootLine) (made : Made) (x : RootTask)
       no_after = first-is-dropped n v.no_after k;
       calls = (n, placement.call) ∷ v.calls;
       may_draw = 0;
+      placings = placing_of (waits_behind x.behind) w n line.priority (ap (λ (y : Placement). y.words) m.placement_is k) ∷ v.placings;
       known = (sym whole k).known;
       facts = (sym whole k).facts;
       sights = (sym whole k).sights;
@@ -315,6 +316,7 @@ module _ (g : Setup) (root : ℕ) (line : RootLine) (made : Made) (x : RootTask)
         no_after = dropped (is_at n) (n ∷ v.no_after);
         calls = (n, placement.call) ∷ v.calls;
         may_draw = 0;
+        placings = placing_of (waits_behind x.behind) w n line.priority placement.words ∷ v.placings;
         known = (view mid).known;
         facts = (view mid).facts;
         sights = left_sights w (dropped (is_at w) (w ∷ v.futures)) (view mid).sights;
@@ -332,5 +334,5 @@ module _ (g : Setup) (root : ℕ) (line : RootLine) (made it : Made) (x : RootTa
   pub may-say_drawn : MayAsk g root (word.Record told.0) (view mid)
   may-say_drawn = may-say_record g root line made x placement v m d.found n (subst (SoundView g) d.view_is sound) d.is_new told.0 told.1 mid there
 
-  pub names-drawn : (new : Pass) → Names root (word.Record told.0) mid new → NamesTask g line.priority made x.behind placement.call v told.1 (view new)
+  pub names-drawn : (new : Pass) → Names root (word.Record told.0) mid new → NamesTask g line.priority made x.behind x.first.items placement.call v told.1 (view new)
   names-drawn new names = names-task g root line made x placement v m d.found n (subst (SoundView g) d.view_is sound) d.is_new told.0 told.1 mid there new d.is_next names

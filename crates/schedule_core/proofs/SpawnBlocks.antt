@@ -99,8 +99,8 @@ module _ (g : Setup) (x : Running) (request : SpawnRequest) (v : View) (q : Prog
       its_entry = subst (λ (p : Program). IsEntryOf p request.kind passed new.first.items) same (subst (λ (l : List Passed). IsEntryOf q request.kind l new.first.items) is entry)
 
   -- and once it is made, the request is met
-  pub made-spawned : (told : Spawned) (after : View) → Makes g x (new_for request passed wanted new) v told after → Spawns g x request v told after
-  made-spawned (spawned.Future future entry) after m = record {
+  pub made-spawned : Wants g x (new_for request passed wanted new) v → (told : Spawned) (after : View) → Makes g x (new_for request passed wanted new) v told after → Spawns g x request v told after
+  made-spawned wants (spawned.Future future entry) after m = record {
     number = m.number;
     given = passed;
     passes = its_passes;
@@ -112,10 +112,12 @@ module _ (g : Setup) (x : Running) (request : SpawnRequest) (v : View) (q : Prog
     waits_for = subst (λ (o : Option ℕ). WasSeenAs after o (task_behind m.behind)) its_wanted m.behind_seen;
     behind = m.behind;
     behind_is = m.behind_is ∙ its_wanted;
-    gets = subst (λ (a : Accepted). GetsTask g x request.to (kind_class g.checked request.kind) request.priority m.number a m.behind v future entry after) m.call_is.2 m.gets;
+    words = new.first.items;
+    first = wants.begins.2;
+    gets = subst (λ (a : Accepted). GetsTask g x request.to (kind_class g.checked request.kind) request.priority m.number new.first.items a m.behind v future entry after) m.call_is.2 m.gets;
   }
-  made-spawned spawned.Null after m = m
-  made-spawned spawned.Over after m = m
+  made-spawned wants spawned.Null after m = m
+  made-spawned wants spawned.Over after m = m
 
 -- a refused one goes on as it was
 pub refused-in-step : (g : Setup) (class : ℕ) (x : Running) (old new : View) → IsInStep g x old → Refuses g.plan class old new → IsInStep g x new

@@ -23,11 +23,11 @@ use Rattle.schedule_rule.specs.DrawViews.{ask, changed, drawn_for, drew_for_run,
 use Rattle.schedule_rule.specs.LifeViews.{with_words}
 use Rattle.schedule_rule.specs.PlacingViews.{is_drawn, past_act, WasSeenAs}
 use Rattle.step_table.specs.DrawSteps.{DrewNumber}
-use Rattle.step_table.specs.PlacingSteps.{Placement, PlacedFor, runs_past}
+use Rattle.step_table.specs.PlacingSteps.{Placement, PlacedFor, runs_past, placing_of}
 use Rattle.step_table.specs.declared.record_tokens.Future.{Future}
 use Rattle.step_table.specs.declared.record_tokens.Made.{Made}
 use Rattle.schedule_core.specs.Begins.{MetLimit}
-use Rattle.schedule_core.specs.Making.{Offers, PlacesNumber, task_behind}
+use Rattle.schedule_core.specs.Making.{Offers, PlacesNumber, task_behind, waits_behind}
 use Rattle.schedule_core.specs.Numbers.{GaveBack}
 use Rattle.schedule_core.specs.PastFrames.{past_words}
 use Rattle.schedule_core.specs.Runs.{IsInStep, IsSameState}
@@ -157,6 +157,7 @@ module _ (g : Setup) (x : Running) (made : Made) (new : NewTask) (behind : Optio
       calls = (n, placement.call) ∷ base.calls;
       wins = place (superblock_of g.plan u) class ∷ base.wins;
       may_draw = 0;
+      placings = placing_of (waits_behind behind) u n new.priority placement.words ∷ base.placings;
       looks = v.looks;
       known = after.known;
       sights = after.sights;
@@ -170,6 +171,7 @@ module _ (g : Setup) (x : Running) (made : Made) (new : NewTask) (behind : Optio
       futures = u ∷ (making.view_is k).futures;
       drawn = dropped (is_drawn n) (drawn_for n u (OfTask x.task) ∷ (making.view_is k).drawn);
       no_task = dropped (is_at n) (n ∷ (making.view_is k).no_task);
+      placings = placing_of (waits_behind behind) u n new.priority placement.words ∷ (making.view_is k).placings;
       no_after = dropped (is_at n) (n ∷ (making.view_is k).no_after);
       known = after.known;
       facts = after.facts;
@@ -188,6 +190,10 @@ module _ (g : Setup) (x : Running) (made : Made) (new : NewTask) (behind : Optio
     drawn_is : dropped (is_drawn n) (drawn_for n u (OfTask x.task) ∷ base.drawn) ≡ base.drawn
     drawn_is = ap (λ (b : Bool). cond b base.drawn (drawn_for n u (OfTask x.task) ∷ dropped (is_drawn n) base.drawn)) (eq-eqb n n refl)
 
+    -- it is placed with the first frame of what is asked for
+    first_words : placement.words ≡ new.first.items
+    first_words = ap (λ (y : Placement). y.words) m.placement_is
+
     -- the view, by the unit of the record
     by-unit : after ≡ record base {
       futures = u ∷ base.futures;
@@ -195,6 +201,7 @@ module _ (g : Setup) (x : Running) (made : Made) (new : NewTask) (behind : Optio
       calls = (n, call) ∷ base.calls;
       wins = place (superblock_of g.plan u) class ∷ base.wins;
       may_draw = 0;
+      placings = placing_of (waits_behind behind) u n new.priority new.first.items ∷ base.placings;
       looks = after.looks;
       known = after.known;
       sights = after.sights;
@@ -212,6 +219,7 @@ module _ (g : Setup) (x : Running) (made : Made) (new : NewTask) (behind : Optio
       calls = (n, placed_call g x made new behind placement v m found n k) ∷ base.calls;
       wins = place (superblock_of g.plan u) class ∷ base.wins;
       may_draw = 0;
+      placings = placing_of (waits_behind behind) u n new.priority (first_words k) ∷ base.placings;
       looks = (sym offered k).looks;
       known = after.known;
       sights = after.sights;
@@ -256,7 +264,7 @@ module _ (g : Setup) (x : Running) (made : Made) (new : NewTask) (behind : Optio
           enters = enters-more u n new.priority behind entry offers.steps drew_steps offers.enters;
         }
 
-        gets : GetsTask g x new.to class new.priority n call behind base future entry after
+        gets : GetsTask g x new.to class new.priority n new.first.items call behind base future entry after
         gets = record {
           placed = subst (λ (y : ℕ). PlacesNumber g.plan.limit y n new.priority behind entry base after) (sym offers.future_is) placed;
           sees = subst (λ (y : ℕ). Has (SawTask y n) after.sights) (sym offers.future_is) offers.sees;
@@ -270,6 +278,7 @@ module _ (g : Setup) (x : Running) (made : Made) (new : NewTask) (behind : Optio
             calls = (n, call) ∷ base.calls;
             wins = place (superblock_of g.plan (sym offers.future_is k)) class ∷ base.wins;
             may_draw = 0;
+            placings = placing_of (waits_behind behind) (sym offers.future_is k) n new.priority new.first.items ∷ base.placings;
             looks = after.looks;
             known = after.known;
             sights = after.sights;

@@ -3,11 +3,16 @@ use Rattle.std.specs.Prelude.{◌≡◌, ℕ, ◌+◌, ◌<◌, Option, Some, No
 use Rattle.record_core.specs.Counting.{At, Has}
 use Rattle.record_core.specs.RootEnds.{roots_named}
 use Rattle.task_syntax.specs.declared.program.Root.{Root as RootLine}
+use Rattle.task_syntax.specs.declared.program.RootArgument.{RootArgument}
+use Rattle.task_syntax.specs.declared.program.RootArgument.TheVariants as root_argument
 use Rattle.task_meaning.specs.Meant.{future_at}
 use Rattle.task_meaning.specs.RootLaws.{root_waits}
 use Rattle.task_meaning.specs.Roots.{root_call}
 use Rattle.task_meaning.specs.Worths.{OfCall}
 use Rattle.ready_queues.specs.declared.entry.Entry.{Entry}
+use Rattle.frame_code.specs.Entries.{IsEntryOf}
+use Rattle.frame_code.specs.declared.entries.Passed.{Passed}
+use Rattle.frame_code.specs.declared.entries.Passed.TheVariants as passed
 use Rattle.kt_words.specs.declared.plan.Plan.{Plan}
 use Rattle.table_core.specs.Addresses.{Addr, units_of, root as word_of_root, task}
 use Rattle.table_core.specs.Holdings.{RootSays, Record}
@@ -20,8 +25,9 @@ use Rattle.table_core.specs.Views.{place, saw}
 use Rattle.table_core.specs.declared.setup.Setup.{Setup}
 use Rattle.table_core.specs.declared.view.View.{View}
 use Rattle.memory_pool.specs.Searches.{SawNoneBelow}
+use Rattle.step_table.specs.PlacingSteps.{placing_of}
 use Rattle.schedule_core.specs.Begins.{SawLimit}
-use Rattle.schedule_core.specs.Making.{PlacesNumber}
+use Rattle.schedule_core.specs.Making.{PlacesNumber, waits_behind}
 use Rattle.schedule_core.specs.References.{Grows}
 use Rattle.schedule_core.specs.NewTasks.{kind_class}
 use Rattle.schedule_core.specs.declared.answers.HostSpawned.{HostSpawned}
@@ -60,8 +66,18 @@ IsBehindRoot asked None (Some b) = ⊥
 IsBehindRoot asked (Some r) None = ⊥
 IsBehindRoot asked (Some r) (Some b) = At asked r (Record b.unit)
 
+-- what a line says is passed: a number, or the record of a root
+abbrev pub IsPassedAs : List RootSays → RootArgument → Passed → Type 0
+IsPassedAs asked (root_argument.Number n) given = given ≡ passed.Number n
+IsPassedAs asked (root_argument.Root r) given = (u : ℕ) × (given ≡ passed.Future u) × At asked r (Record u)
+
+-- one after the other
+pub record ArePassedAs (asked : List RootSays) (arguments : List RootArgument) (given : List Passed) : Type 0 where
+  pub length_is : length given ≡ length arguments
+  pub each : (k : ℕ) (a : RootArgument) (x : Passed) → At arguments k a → At given k x → IsPassedAs asked a x
+
 -- The new task has the next number, and its call is that of the line, over the tasks of the roots that it names. Its record has a block
--- of the kind's class, and its reference is in the root's word.
+-- of the kind's class, its frame is the first one of its kind with what the line passes, and its reference is in the root's word.
 pub record HasHosted (g : Setup) (line : RootLine) (asked : List RootSays) (old : View) (entry : Option Entry) (new : View) : Type 0 where
   pub unit : ℕ
   pub number : ℕ
@@ -71,6 +87,10 @@ pub record HasHosted (g : Setup) (line : RootLine) (asked : List RootSays) (old 
   pub behind_is : IsBehindRoot asked line.behind behind
   pub placed : PlacesNumber g.plan.limit unit number line.priority behind entry old new
   pub reads : Each (ReadsRoot asked known placed.steps) (roots_named line)
+  pub passed : List Passed
+  pub passes : ArePassedAs asked line.arguments passed
+  pub words : List ℕ
+  pub first : IsEntryOf g.checked line.kind passed words
   pub looks : Grows old.looks new.looks
   pub facts : Grows old.facts new.facts
   pub settles : Grows old.settles new.settles
@@ -79,6 +99,7 @@ pub record HasHosted (g : Setup) (line : RootLine) (asked : List RootSays) (old 
     wins = place (superblock_of g.plan unit) (kind_class g.checked line.kind) ∷ old.wins;
     settles = new.settles;
     may_draw = 0;
+    placings = placing_of (waits_behind behind) unit number line.priority words ∷ old.placings;
     looks = new.looks;
     known = new.known;
     sights = new.sights;

@@ -1,5 +1,5 @@
 -- What is needed to place a new record with its first frame, and what that leaves.
-use Rattle.std.specs.Prelude.{◌≡◌, ◌≢◌, ℕ, ◌+◌, ◌*◌, ◌≤◌, ◌⊎◌, false, true, Option, Some, None, List, ◌∷◌, ◌++◌, length, slice_index}
+use Rattle.std.specs.Prelude.{◌≡◌, ◌≢◌, ℕ, ◌+◌, ◌*◌, ◌≤◌, ◌⊎◌, Bool, false, true, Option, Some, None, List, ◌∷◌, ◌++◌, length, slice_index}
 use Rattle.record_core.specs.Counting.{Has, times, dropped}
 use Rattle.kt_words.specs.Capacity.{block_units}
 use Rattle.kt_words.specs.HeadWords.{closed_word}
@@ -28,7 +28,7 @@ use Rattle.schedule_rule.specs.LifeViews.{count_in}
 use Rattle.schedule_rule.specs.PlacingViews.{is_drawn, IsFirstFrame}
 use Rattle.schedule_rule.specs.SeeingViews.{IsWaitingWord}
 use Rattle.schedule_rule.specs.SoundViews.{IsUpTo, SoundView}
-use Rattle.step_table.specs.PlacingSteps.{Placement, runs_past, IsFor, placed_made, MayPlaceMade}
+use Rattle.step_table.specs.PlacingSteps.{Placement, placing_of, runs_past, IsFor, placed_made, MayPlaceMade}
 use Rattle.step_table.specs.Lookups.{waiter_in}
 use Rattle.step_table.specs.RecordHands.{MadeAt, HasFuture}
 use Rattle.step_table.specs.Passes.{view}
@@ -44,6 +44,11 @@ use Rattle.schedule_core.specs.declared.making.Behind.{Behind}
 abbrev pub task_behind : Option Behind → Option ℕ
 task_behind None = None
 task_behind (Some b) = Some b.task
+
+-- a record waits from its placing on where it is behind a task
+abbrev pub waits_behind : Option Behind → Bool
+waits_behind None = false
+waits_behind (Some b) = true
 
 -- the pass has a reference to the record of the predecessor, and saw its task there
 abbrev pub KnowsPredecessor : Plan → Option Behind → View → Type 0
@@ -177,7 +182,7 @@ pub record JoinsBehind (g : Setup) (unit : ℕ) (behind : Behind) (old : View) (
   pub sound : SoundView g new
   pub view_is : new ≡ record old { waiting = dropped (is_waiter_at unit) old.waiting; facts = new.facts; sights = new.sights; tries = new.tries; seen = new.seen }
 
--- the number is placed; the pass has a reference to the record, whose task it saw
+-- The number is placed with its priority and the frame; the pass has a reference to the record, whose task it saw.
 pub record PlacesNew (g : Setup) (made : Made) (number : ℕ) (priority : Priority) (behind : Option Behind) (x : Placement) (old : View) (told : Future × Option Entry) (new : View) : Type 0 where
   pub future_is : told.0.unit ≡ made.unit
   pub steps : List (Addr × ℕ)
@@ -187,7 +192,13 @@ pub record PlacesNew (g : Setup) (made : Made) (number : ℕ) (priority : Priori
   pub sees : Has (SawTask made.unit number) new.sights
   pub kept : (s : Sight) → Has s old.sights → 1 ≤ times (seen_at s) new.futures → Has s new.sights
   pub sound : SoundView g new
-  pub view_is : new ≡ record (placed_made false g.checked made number x old) { facts = new.facts; sights = new.sights; tries = new.tries; seen = new.seen }
+  pub view_is : new ≡ record (placed_made false g.checked made number x old) {
+    placings = placing_of (waits_behind behind) made.unit number priority x.words ∷ old.placings;
+    facts = new.facts;
+    sights = new.sights;
+    tries = new.tries;
+    seen = new.seen;
+  }
 
 -- A new record may be placed with its first frame: beside what its words and rows need, the frame is the first one of the call and names
 -- what its state holds, the asker is past the act afterwards, and one reference more is enough then.
@@ -204,7 +215,8 @@ pub record MayOffer (g : Setup) (made : Made) (number : ℕ) (behind : Option Be
   pub asked : IsFor g drawn x.asked v
   pub covers : BagSound g.checked (record { futures = made.unit ∷ v.futures; runs = runs_past x.asked v.runs })
 
--- The record is placed under its number; the pass has one reference more, to it, and those of its frame are the record's.
+-- The record is placed under its number, with its priority and the frame; the pass has one reference more, to it, and those of its frame
+-- are the record's.
 pub record Offers (g : Setup) (made : Made) (number : ℕ) (priority : Priority) (behind : Option Behind) (x : Placement) (old : View) (told : Future × Option Entry) (new : View) : Type 0 where
   pub future_is : told.0.unit ≡ made.unit
   pub steps : List (Addr × ℕ)
@@ -219,6 +231,7 @@ pub record Offers (g : Setup) (made : Made) (number : ℕ) (priority : Priority)
     runs = runs_past x.asked old.runs;
     futures = made.unit ∷ old.futures;
     drawn = dropped (is_drawn number) old.drawn;
+    placings = placing_of (waits_behind behind) made.unit number priority x.words ∷ old.placings;
     no_task = dropped (is_at number) old.no_task;
     no_after = dropped (is_at number) old.no_after;
     known = new.known;

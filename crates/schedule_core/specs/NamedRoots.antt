@@ -3,12 +3,10 @@ use Rattle.std.specs.Prelude.{◌≡◌, ℕ, ◌<◌, Option, Some, None, List,
 use Rattle.std.specs.Option.{option_to_list}
 use Rattle.record_core.specs.Counting.{At, Has, times}
 use Rattle.task_syntax.specs.declared.program.RootArgument.{RootArgument}
-use Rattle.task_syntax.specs.declared.program.RootArgument.TheVariants as root_argument
 use Rattle.kt_words.specs.declared.plan.Plan.{Plan}
 use Rattle.frame_code.specs.Entries.{future_of}
 use Rattle.frame_code.specs.Names.{present}
 use Rattle.frame_code.specs.declared.entries.Passed.{Passed}
-use Rattle.frame_code.specs.declared.entries.Passed.TheVariants as passed
 use Rattle.table_core.specs.Addresses.{Addr, units_of, task}
 use Rattle.table_core.specs.Holdings.{RootSays, Record, Sight, SawTask}
 use Rattle.table_core.specs.Lists.{Each}
@@ -17,7 +15,7 @@ use Rattle.table_core.specs.declared.view.View.{View}
 use Rattle.step_table.specs.RootSteps.{HasRootRecord}
 use Rattle.schedule_core.specs.References.{Grows}
 use Rattle.schedule_core.specs.SeenTasks.{task_seen, unit_behind}
-use Rattle.schedule_core.specs.Hosting.{IsBehindRoot}
+use Rattle.schedule_core.specs.Hosting.{IsBehindRoot, IsPassedAs, ArePassedAs}
 use Rattle.schedule_core.specs.declared.making.Behind.{Behind}
 
 abbrev pub HasTurn : View → Type 0
@@ -60,16 +58,6 @@ pub record TakesRoot (g : Plan) (r : ℕ) (b : Behind) (old new : View) : Type 0
   pub is_its : (asked : List RootSays) → old.turn ≡ asked ∷ [] → At asked r (Record b.unit)
   pub takes : TakesUnits g (b.unit ∷ []) old new
   pub task_is : task_seen b.unit new.sights ≡ Some b.task
-
--- what a line says is passed: a number, or the record of a root
-abbrev pub IsPassedAs : List RootSays → RootArgument → Passed → Type 0
-IsPassedAs asked (root_argument.Number n) given = given ≡ passed.Number n
-IsPassedAs asked (root_argument.Root r) given = (u : ℕ) × (given ≡ passed.Future u) × At asked r (Record u)
-
--- one after the other
-pub record ArePassedAs (asked : List RootSays) (arguments : List RootArgument) (given : List Passed) : Type 0 where
-  pub length_is : length given ≡ length arguments
-  pub each : (k : ℕ) (a : RootArgument) (x : Passed) → At arguments k a → At given k x → IsPassedAs asked a x
 
 -- the records of the roots that an argument names are passed, with a reference to each
 pub record PassesRoot (g : Plan) (argument : RootArgument) (given : Passed) (old new : View) : Type 0 where

@@ -39,12 +39,12 @@ use Rattle.memory_pool.specs.Answers.{Gives, Refuses}
 use Rattle.memory_pool.specs.Searches.{SeesMore}
 use Rattle.step_table.specs.DrawSteps.{Asking}
 use Rattle.step_table.specs.Passes.{block_of}
-use Rattle.step_table.specs.PlacingSteps.{Placement, ForRun}
+use Rattle.step_table.specs.PlacingSteps.{Placement, ForRun, placing_of}
 use Rattle.step_table.specs.declared.record_tokens.Future.{Future}
 use Rattle.step_table.specs.declared.record_tokens.Made.{Made}
 use Rattle.step_table.specs.declared.tokens.Block.{Block}
 use Rattle.schedule_core.specs.Begins.{MetLimit}
-use Rattle.schedule_core.specs.Making.{PlacesNumber, task_behind}
+use Rattle.schedule_core.specs.Making.{PlacesNumber, task_behind, waits_behind}
 use Rattle.schedule_core.specs.PastFrames.{past_words}
 use Rattle.schedule_core.specs.References.{Grows}
 use Rattle.schedule_core.specs.Runs.{IsInStep}
@@ -115,9 +115,10 @@ abbrev pub IsCallOver : View → Given → Option ℕ → Accepted → Type 0
 IsCallOver v (given.Call kind passed) waits call = (futures : List (Option ℕ)) × WereSeenAs v (map future_of passed) futures × (call ≡ OfCall (record { kind = kind; numbers = map number_of passed; futures = futures }) waits)
 IsCallOver v (given.Members units) waits call = (members : List ℕ) × WereSeenAs v (map Some units) (map Some members) × (call ≡ OfAll members)
 
--- A running task has a new one: the number is placed for its record, by this call, which is behind this task or none. The pass has one
--- reference more, to the record, and saw its task there. The frame of the asker is past its act, where its variable names the record.
-pub record GetsTask (g : Setup) (x : Running) (to class : ℕ) (priority : Priority) (number : ℕ) (call : Accepted) (behind : Option Behind) (old : View) (future : Future) (entry : Option Entry) (new : View) : Type 0 where
+-- A running task has a new one: the number is placed for its record with the priority and these words as its frame, by this call, which
+-- is behind this task or none. The pass has one reference more, to the record, and saw its task there. The frame of the asker is past its
+-- act, where its variable names the record.
+pub record GetsTask (g : Setup) (x : Running) (to class : ℕ) (priority : Priority) (number : ℕ) (words : List ℕ) (call : Accepted) (behind : Option Behind) (old : View) (future : Future) (entry : Option Entry) (new : View) : Type 0 where
   pub placed : PlacesNumber g.plan.limit future.unit number priority behind entry old new
   pub sees : Has (SawTask future.unit number) new.sights
   pub facts : Grows old.facts new.facts
@@ -127,6 +128,7 @@ pub record GetsTask (g : Setup) (x : Running) (to class : ℕ) (priority : Prior
     calls = (number, call) ∷ old.calls;
     wins = place (superblock_of g.plan future.unit) class ∷ old.wins;
     may_draw = 0;
+    placings = placing_of (waits_behind behind) future.unit number priority words ∷ old.placings;
     looks = new.looks;
     known = new.known;
     sights = new.sights;
@@ -135,7 +137,7 @@ pub record GetsTask (g : Setup) (x : Running) (to class : ℕ) (priority : Prior
     seen = new.seen;
   }
 
--- The new task is what is asked for, over the tasks that were seen.
+-- The new task is what is asked for, over the tasks that were seen, and begins with the first frame.
 pub record HasMade (g : Setup) (x : Running) (new : NewTask) (old : View) (future : Future) (entry : Option Entry) (after : View) : Type 0 where
   pub number : ℕ
   pub behind : Option Behind
@@ -144,7 +146,7 @@ pub record HasMade (g : Setup) (x : Running) (new : NewTask) (old : View) (futur
   pub call : Accepted
   pub call_is : IsCallOver after new.given (task_behind behind) call
   pub after_is : task_behind behind ≡ after_in (Some call)
-  pub gets : GetsTask g x new.to (class_given g.checked new.given) new.priority number call behind old future entry after
+  pub gets : GetsTask g x new.to (class_given g.checked new.given) new.priority number new.first.items call behind old future entry after
 
 abbrev pub asking_of : Running → Asking
 asking_of x = record { asker = Some (OfTask x.task); move = Some (record { unit = x.started.unit; words = x.frame.items }) }

@@ -1,5 +1,5 @@
 -- What is needed to place a running task's next activation with its frame, and what that leaves.
-use Rattle.std.specs.Prelude.{◌≡◌, ℕ, ◌*◌, ◌≤◌, Option, List, ◌++◌, length, slice_index}
+use Rattle.std.specs.Prelude.{◌≡◌, ℕ, ◌*◌, ◌≤◌, Option, List, ◌∷◌, ◌++◌, length, slice_index}
 use Rattle.record_core.specs.Counting.{Has, times, dropped}
 use Rattle.kt_words.specs.Capacity.{block_units}
 use Rattle.task_syntax.specs.declared.value.Priority.{Priority}
@@ -10,7 +10,7 @@ use Rattle.frame_code.specs.Units.{named_in}
 use Rattle.frame_code.specs.Words.{body_at, body_of}
 use Rattle.table_core.specs.Addresses.{Addr}
 use Rattle.table_core.specs.Asking.{OfTask}
-use Rattle.table_core.specs.Holdings.{Run}
+use Rattle.table_core.specs.Holdings.{Run, Placing}
 use Rattle.table_core.specs.Story.{IsAccepted}
 use Rattle.table_core.specs.WaitViews.{is_run_at}
 use Rattle.table_core.specs.declared.setup.Setup.{Setup}
@@ -19,9 +19,10 @@ use Rattle.schedule_rule.specs.DrawViews.{drawn_for}
 use Rattle.schedule_rule.specs.Frames.{HoldsNames}
 use Rattle.schedule_rule.specs.LifeViews.{answers_left}
 use Rattle.schedule_rule.specs.PlacingViews.{less, is_drawn, IsNextFrame}
+use Rattle.step_table.specs.PlacingSteps.{placing_of}
 use Rattle.step_table.specs.RecordHands.{RunAt}
 use Rattle.schedule_core.specs.Bags.{IsSpare}
-use Rattle.schedule_core.specs.Making.{Enters, KnowsPredecessor, task_behind}
+use Rattle.schedule_core.specs.Making.{Enters, KnowsPredecessor, task_behind, waits_behind}
 use Rattle.schedule_core.specs.References.{Grows}
 use Rattle.schedule_core.specs.declared.making.Behind.{Behind}
 
@@ -48,15 +49,16 @@ pub record MayPlaceBehind (g : Setup) (unit number : ℕ) (behind : Option Behin
   pub may : MayPlaceFrame g unit number (task_behind behind) words v
   pub predecessor : KnowsPredecessor g.plan behind v
 
--- The number is placed, and the run is in the hand no more. The record has the references of its frame, and what was answered to its
--- task is of no use any more.
-abbrev pub IsPlacedAgain : Setup → ℕ → ℕ → List ℕ → View → View → Type 0
-IsPlacedAgain g unit number words old new = (run : Run) → RunAt g.plan unit old run → new ≡ record old {
+-- The number is placed in this way, and the run is in the hand no more. The record has the references of its frame, and what was answered
+-- to its task is of no use any more.
+abbrev pub IsPlacedAgain : Setup → ℕ → ℕ → List ℕ → Placing → View → View → Type 0
+IsPlacedAgain g unit number words placing old new = (run : Run) → RunAt g.plan unit old run → new ≡ record old {
   runs = dropped (is_run_at unit) old.runs;
   known = new.known;
   futures = less old.futures (named_in g.checked words);
   sights = new.sights;
   drawn = dropped (is_drawn number) old.drawn;
+  placings = placing ∷ old.placings;
   answers = answers_left run.task old.answers;
   facts = new.facts;
   settles = new.settles;
@@ -64,11 +66,11 @@ IsPlacedAgain g unit number words old new = (run : Run) → RunAt g.plan unit ol
   seen = new.seen;
 }
 
--- besides, what is told of its entry, among the steps of the call
+-- with this priority and frame; besides, what is told of its entry, among the steps of the call
 pub record PlacesAgain (g : Setup) (unit number : ℕ) (priority : Priority) (behind : Option Behind) (words : List ℕ) (old : View) (told : Option Entry) (new : View) : Type 0 where
   pub steps : List (Addr × ℕ)
   pub since : new.seen ≡ steps ++ old.seen
   pub enters : Enters unit number priority behind told steps
   pub facts : Grows old.facts new.facts
   pub settles : Grows old.settles new.settles
-  pub view_is : IsPlacedAgain g unit number words old new
+  pub view_is : IsPlacedAgain g unit number words (placing_of (waits_behind behind) unit number priority words) old new

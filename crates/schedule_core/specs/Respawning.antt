@@ -1,5 +1,5 @@
 -- What a respawn and a retry need, and what they tell.
-use Rattle.std.specs.Prelude.{◌≡◌, ℕ, ◌-◌, ◌<◌, ◌⊎◌, true, cond, Option, Some, None, IfSome, ◌∷◌, length, slice_get, slice_index}
+use Rattle.std.specs.Prelude.{◌≡◌, ℕ, ◌-◌, ◌<◌, ◌⊎◌, true, cond, Option, Some, None, IfSome, List, ◌∷◌, length, slice_get, slice_index}
 use Rattle.record_core.specs.Counting.{dropped}
 use Rattle.record_core.specs.declared.rows.CutTag.TheVariants as cut
 use Rattle.task_syntax.specs.declared.columns.Columns.{Columns}
@@ -14,7 +14,7 @@ use Rattle.frame_code.specs.Control.{is_aggregate}
 use Rattle.frame_code.specs.Members.{member_act}
 use Rattle.frame_code.specs.Setting.{BodyHasSort}
 use Rattle.frame_code.specs.Stops.{StopsAt}
-use Rattle.frame_code.specs.Units.{named_in}
+use Rattle.frame_code.specs.Units.{named_in, IsEnteredHeld}
 use Rattle.frame_code.specs.Words.{BodyOf, OfKind, OfMembers, body_of}
 use Rattle.frame_code.specs.declared.act.Act.TheVariants as act
 use Rattle.frame_code.specs.declared.act.AllRequest.{AllRequest}
@@ -25,7 +25,8 @@ use Rattle.table_core.specs.declared.setup.Setup.{Setup}
 use Rattle.table_core.specs.declared.view.View.{View}
 use Rattle.schedule_rule.specs.LifeViews.{answers_left}
 use Rattle.schedule_rule.specs.PlacingViews.{less}
-use Rattle.schedule_core.specs.Making.{PlacesNumber, task_behind}
+use Rattle.step_table.specs.PlacingSteps.{placing_of}
+use Rattle.schedule_core.specs.Making.{PlacesNumber, task_behind, waits_behind}
 use Rattle.schedule_core.specs.NextNumbers.{HasNumber, MetLimitNext, SawBehind}
 use Rattle.schedule_core.specs.References.{Grows}
 use Rattle.schedule_core.specs.Runs.{IsInStep}
@@ -63,13 +64,15 @@ pub record MayRespawn (g : Setup) (x : Running) (request : RespawnRequest) (v : 
 
 -- The task has a next activation, under the next number: behind the task of the record at this unit, or behind none. The pass runs it no
 -- more, and has none of the references that its frame named: those of the next activation's frame are the record's, and the others are
--- given up; the places of blocks that came free by this are settled beside those that were before.
-pub record HasRespawned (g : Setup) (x : Running) (wanted : Option ℕ) (priority : Priority) (old : View) (told : Option Entry) (new : View) : Type 0 where
+-- given up; the places of blocks that came free by this are settled beside those that were before. Its frame is a next one.
+pub record HasRespawned (g : Setup) (x : Running) (wanted : Option ℕ) (priority : Priority) (IsNext : List ℕ → Type 0) (old : View) (told : Option Entry) (new : View) : Type 0 where
   pub number : ℕ
   pub behind : Option Behind
   pub behind_is : unit_behind behind ≡ wanted
   pub placed : PlacesNumber g.plan.limit x.started.unit number priority behind told old new
   pub saw : SawBehind behind placed.steps
+  pub words : List ℕ
+  pub next : IsNext words
   pub facts : Grows old.facts new.facts
   pub settles : Grows old.settles new.settles
   pub view_is : new ≡ record old {
@@ -79,6 +82,7 @@ pub record HasRespawned (g : Setup) (x : Running) (wanted : Option ℕ) (priorit
     sights = new.sights;
     calls = (number, Respawn x.task (task_behind behind)) ∷ old.calls;
     may_draw = 0;
+    placings = placing_of (waits_behind behind) x.started.unit number priority words ∷ old.placings;
     answers = answers_left x.task old.answers;
     facts = new.facts;
     settles = new.settles;
@@ -96,19 +100,19 @@ pub record IsLimited (g : Setup) (x : Running) (old : View) (back : Running) (ne
   pub met : MetLimitNext g x.task old new
   pub in_step : IsInStep g back new
 
--- what comes of asking for a next activation
-abbrev pub GoesOn : Setup → Running → Option ℕ → Priority → View → Respawned → View → Type 0
-GoesOn g x wanted priority old respawned.Waits new = HasRespawned g x wanted priority old None new
-GoesOn g x wanted priority old (respawned.Ready e) new = HasRespawned g x wanted priority old (Some e) new
-GoesOn g x wanted priority old (respawned.Over back) new = IsLimited g x old back new
+-- what comes of asking for a next activation, whose frame is such a one
+abbrev pub GoesOn : Setup → Running → Option ℕ → Priority → (List ℕ → Type 0) → View → Respawned → View → Type 0
+GoesOn g x wanted priority IsNext old respawned.Waits new = HasRespawned g x wanted priority IsNext old None new
+GoesOn g x wanted priority IsNext old (respawned.Ready e) new = HasRespawned g x wanted priority IsNext old (Some e) new
+GoesOn g x wanted priority IsNext old (respawned.Over back) new = IsLimited g x old back new
 
 -- the priority of the next activation: an aggregate keeps that of its running one
 abbrev pub priority_next : Running → RespawnRequest → Priority
 priority_next x request = cond (is_aggregate (slice_index x.frame.items 0)) x.priority request.priority
 
--- by a respawn
+-- by a respawn: the next frame is this one where it enters its target
 abbrev pub Respawns : Setup → Running → RespawnRequest → View → Respawned → View → Type 0
-Respawns g x request = GoesOn g x (unit_next (body_of g.checked x.frame.items) request.behind) (priority_next x request)
+Respawns g x request = GoesOn g x (unit_next (body_of g.checked x.frame.items) request.behind) (priority_next x request) (IsEnteredHeld g.checked request.target x.frame.items)
 
 -- how many references a pass counts that had so many before
 abbrev pub held_respawned : Setup → Running → ℕ → Respawned → ℕ
@@ -139,9 +143,9 @@ pub record MayRetry (g : Setup) (x : Running) (v : View) : Type 0 where
   pub asks : AsksOnNull g.checked g.columns (body_of g.checked x.frame.items)
   pub refused : x.refused ≡ Some cut.Null
 
--- the next activation stands where this one does, behind no task
+-- the next activation has the frame that this one has, so it stands at the same line, and is behind no task
 abbrev pub Retries : Setup → Running → View → Respawned → View → Type 0
-Retries g x = GoesOn g x None Low
+Retries g x = GoesOn g x None Low (λ words. words ≡ x.frame.items)
 
 -- the number of a task's next activation is drawn, which is behind no task
 pub record MayStay (g : Setup) (x : Running) (number : ℕ) (v : View) : Type 0 where

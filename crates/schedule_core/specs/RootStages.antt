@@ -26,14 +26,14 @@ use Rattle.memory_pool.specs.Answers.{Gives}
 use Rattle.memory_pool.specs.Searches.{SeesMore}
 use Rattle.step_table.specs.DrawSteps.{Asking}
 use Rattle.step_table.specs.Passes.{block_of}
-use Rattle.step_table.specs.PlacingSteps.{Placement, ForRoot}
+use Rattle.step_table.specs.PlacingSteps.{Placement, ForRoot, placing_of}
 use Rattle.step_table.specs.RecordHands.{MadeAt}
 use Rattle.step_table.specs.declared.record_tokens.Made.{Made}
 use Rattle.step_table.specs.declared.tokens.Block.{Block}
 use Rattle.schedule_core.specs.Begins.{HasBegun, SawLimit}
-use Rattle.schedule_core.specs.Hosting.{IsNextRoot, IsBehindRoot, HaveRecords, Hosts, says_next}
-use Rattle.schedule_core.specs.Making.{PlacesNumber}
-use Rattle.schedule_core.specs.NamedRoots.{ArePassedAs, SawLast}
+use Rattle.schedule_core.specs.Hosting.{IsNextRoot, IsBehindRoot, ArePassedAs, HaveRecords, Hosts, says_next}
+use Rattle.schedule_core.specs.Making.{PlacesNumber, waits_behind}
+use Rattle.schedule_core.specs.NamedRoots.{SawLast}
 use Rattle.schedule_core.specs.Numbers.{Numbers}
 use Rattle.schedule_core.specs.References.{Grows, HasEach}
 use Rattle.schedule_core.specs.SeenTasks.{task_seen, unit_behind}
@@ -82,8 +82,8 @@ pub record MayPlaceRoot (g : Setup) (root : ℕ) (line : RootLine) (made : Made)
   pub behind_seen : SawLast x.behind v
   pub placement_is : placement ≡ root_placement line x v
 
--- the number is placed, and the record's reference is in the root's word
-pub record NamesTask (g : Setup) (priority : Priority) (made : Made) (behind : Option Behind) (call : Accepted) (old : View) (entry : Option Entry) (new : View) : Type 0 where
+-- the number is placed with these words as its frame, and the record's reference is in the root's word
+pub record NamesTask (g : Setup) (priority : Priority) (made : Made) (behind : Option Behind) (words : List ℕ) (call : Accepted) (old : View) (entry : Option Entry) (new : View) : Type 0 where
   pub number : ℕ
   pub placed : PlacesNumber g.plan.limit made.unit number priority behind entry old new
   pub facts : Grows old.facts new.facts
@@ -91,6 +91,7 @@ pub record NamesTask (g : Setup) (priority : Priority) (made : Made) (behind : O
     made = dropped (is_made_at made.unit) old.made;
     calls = (number, call) ∷ old.calls;
     may_draw = 0;
+    placings = placing_of (waits_behind behind) made.unit number priority words ∷ old.placings;
     known = new.known;
     sights = new.sights;
     facts = new.facts;
@@ -111,7 +112,7 @@ pub record NamesLimit (g : Setup) (made : Made) (old new : View) : Type 0 where
   }
 
 abbrev pub PlacesRoot : Setup → RootLine → Made → RootTask → Placement → View → HostSpawned → View → Type 0
-PlacesRoot g line made x placement old (hosted.Named entry) new = NamesTask g line.priority made x.behind placement.call old entry new
+PlacesRoot g line made x placement old (hosted.Named entry) new = NamesTask g line.priority made x.behind x.first.items placement.call old entry new
 PlacesRoot g line made x placement old hosted.Over new = NamesLimit g made old new
 PlacesRoot g line made x placement old hosted.Null new = ⊥
 PlacesRoot g line made x placement old (hosted.Skipped j) new = ⊥

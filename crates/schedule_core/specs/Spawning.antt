@@ -3,7 +3,7 @@ use Rattle.std.specs.Prelude.{◌≡◌, ℕ, ◌<◌, Option, Some, None, List,
 use Rattle.task_meaning.specs.Frame.{CallOf}
 use Rattle.task_meaning.specs.Worths.{OfCall}
 use Rattle.ready_queues.specs.declared.entry.Entry.{Entry}
-use Rattle.frame_code.specs.Entries.{future_of, number_of, Passes}
+use Rattle.frame_code.specs.Entries.{future_of, number_of, Passes, IsEntryOf}
 use Rattle.frame_code.specs.Setting.{unit_in}
 use Rattle.frame_code.specs.Stops.{StopsAt}
 use Rattle.frame_code.specs.Words.{BodyOf, OfKind, OfMembers, body_of}
@@ -47,7 +47,8 @@ pub record MaySpawn (g : Setup) (x : Running) (request : SpawnRequest) (v : View
   pub unrefused : x.refused ≡ None
   pub unmade : x.made ≡ None
 
--- The call of the new task is what the request asks for, over the tasks that were seen at the records of the futures.
+-- The call of the new task is what the request asks for, over the tasks that were seen at the records of the futures. Its frame is the first
+-- one of its kind, with what is passed.
 pub record HasSpawned (g : Setup) (x : Running) (request : SpawnRequest) (old : View) (future : Future) (entry : Option Entry) (new : View) : Type 0 where
   pub number : ℕ
   pub given : List Passed
@@ -60,7 +61,9 @@ pub record HasSpawned (g : Setup) (x : Running) (request : SpawnRequest) (old : 
   pub waits_for : WasSeenAs new (named_if g.checked x.frame.items request.behind) waits
   pub behind : Option Behind
   pub behind_is : unit_behind behind ≡ named_if g.checked x.frame.items request.behind
-  pub gets : GetsTask g x request.to (kind_class g.checked request.kind) request.priority number (OfCall call waits) behind old future entry new
+  pub words : List ℕ
+  pub first : IsEntryOf g.checked request.kind given words
+  pub gets : GetsTask g x request.to (kind_class g.checked request.kind) request.priority number words (OfCall call waits) behind old future entry new
 
 abbrev pub Spawns : Setup → Running → SpawnRequest → View → Spawned → View → Type 0
 Spawns g x request old = ComesOf g x (kind_class g.checked request.kind) (HasSpawned g x request old) old

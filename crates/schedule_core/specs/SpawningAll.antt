@@ -3,7 +3,7 @@ use Rattle.std.specs.Prelude.{◌≡◌, ℕ, ◌<◌, Option, Some, None, List,
 use Rattle.task_meaning.specs.Worths.{OfAll}
 use Rattle.ready_queues.specs.declared.entry.Entry.{Entry}
 use Rattle.frame_code.specs.Setting.{unit_in}
-use Rattle.frame_code.specs.Words.{body_of}
+use Rattle.frame_code.specs.Words.{OfMembers, body_of}
 use Rattle.frame_code.specs.declared.act.Act.TheVariants as act
 use Rattle.frame_code.specs.declared.act.AllRequest.{AllRequest}
 use Rattle.table_core.specs.Addresses.{units_of}
@@ -35,7 +35,7 @@ abbrev pub units_all : Setup → Running → AllRequest → List (Option ℕ)
 units_all g x request = map (unit_in g.checked x.frame.items) request.members
 
 -- The members of the new aggregate are the tasks that were seen at the records of the futures, in their order, each as often as it is
--- named. It is behind the first of them.
+-- named. It is behind the first of them, and its frame names the records of all.
 pub record HasSpawnedAll (g : Setup) (x : Running) (request : AllRequest) (old : View) (future : Future) (entry : Option Entry) (new : View) : Type 0 where
   pub number : ℕ
   pub members : List ℕ
@@ -43,7 +43,11 @@ pub record HasSpawnedAll (g : Setup) (x : Running) (request : AllRequest) (old :
   pub behind : Behind
   pub first_is : slice_get (units_all g x request) 0 ≡ Some (Some behind.unit)
   pub waits_for : slice_get members 0 ≡ Some behind.task
-  pub gets : GetsTask g x request.to (group_class (length request.members)) request.priority number (OfAll members) (Some behind) old future entry new
+  pub units : List ℕ
+  pub units_are : units_all g x request ≡ map Some units
+  pub words : List ℕ
+  pub frame : body_of g.checked words ≡ OfMembers units 1
+  pub gets : GetsTask g x request.to (group_class (length request.members)) request.priority number words (OfAll members) (Some behind) old future entry new
 
 abbrev pub SpawnsAll : Setup → Running → AllRequest → View → Spawned → View → Type 0
 SpawnsAll g x request old = ComesOf g x (group_class (length request.members)) (HasSpawnedAll g x request old) old

@@ -20,7 +20,7 @@ wait_made-requires g c = (
 
 pub join-entry-requires-clause-may : goal.join-entry-requires-clause-may
 join-entry-requires-clause-may g c =
-    may-join c.args.shared.now.setup c.args.made c.args.number g.placement c.in-Some.behind c.args.pass.now c.wait_made.new.pass c.wait_made.ensures.view c.args.behind c.wait_made.result.0.unit c.in-Some.is
+    may-join c.args.shared.now.setup c.args.made c.args.number c.args.priority g.placement c.in-Some.behind c.args.pass.now c.wait_made.new.pass c.wait_made.ensures.view c.args.behind c.wait_made.result.0.unit c.in-Some.is
     c.wait_made.ensures.waiter c.requires.1
 
 pub returns-in-None-clause-placed : goal.returns-in-None-clause-placed
@@ -31,5 +31,5 @@ returns-in-None-clause-placed g c =
 
 pub returns-in-Some-clause-placed : goal.returns-in-Some-clause-placed
 returns-in-Some-clause-placed g c =
-    places-waiting c.args.shared.now.setup c.args.made c.args.number g.placement c.in-Some.behind c.args.pass.now c.wait_made.new.pass c.wait_made.ensures.view c.args.priority c.args.behind c.join-entry.result c.wait_made.result.1
+    places-waiting c.args.shared.now.setup c.args.made c.args.number c.args.priority g.placement c.in-Some.behind c.args.pass.now c.wait_made.new.pass c.wait_made.ensures.view c.args.behind c.join-entry.result c.wait_made.result.1
     c.wait_made.result.0.unit (view c.join-entry.new.pass) c.in-Some.is c.wait_made.ensures.waiter c.wait_made.ensures.future c.join-entry.ensures.joined

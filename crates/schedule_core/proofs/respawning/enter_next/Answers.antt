@@ -94,10 +94,10 @@ returns-in-None-clause-entered c = λ base may has.
     let names = entered-names p c.args.code.now request.target (body_of p items) next c.requires.code c.program-program.ensures.formed c.program-program.ensures.valid (may-enter p g.columns request (body_of p items) may.asks) moved may.in_step.names in
     let z = view c.place_again-entry.new.pass in let told = c.place_again-entry.result in let e = view c.drop_units.new.pass in
     let drops = subst (λ (us : List ℕ). DropsEach us z e) c.as_slice.ensures c.drop_units.ensures.dropped in
-    subst (λ (w : View). HasRespawned g x wanted (priority_next x request) base None w) (sym c.keep_count.ensures.view)
-    (subst (λ (r : Priority). HasRespawned g x wanted r base None e) c.priority_after-priority.ensures
-    (subst (λ o. HasRespawned g x wanted c.priority_after-priority.result base o e) c.in-None.is
-    (gone-on g x wanted n c.args.behind base v may.in_step has next given frame is_next names parts c.priority_after-priority.result told z c.place_again-entry.ensures.placed e drops)))
+    subst (λ (w : View). HasRespawned g x wanted (priority_next x request) (IsEnteredHeld p request.target items) base None w) (sym c.keep_count.ensures.view)
+    (subst (λ (r : Priority). HasRespawned g x wanted r (IsEnteredHeld p request.target items) base None e) c.priority_after-priority.ensures
+    (subst (λ o. HasRespawned g x wanted c.priority_after-priority.result (IsEnteredHeld p request.target items) base o e) c.in-None.is
+    (gone-on g x wanted n c.args.behind base v may.in_step has next given frame is_next names parts c.priority_after-priority.result told z c.place_again-entry.ensures.placed e drops (IsEnteredHeld p request.target items) moved)))
 
 pub returns-in-Some-clause-entered : goal.returns-in-Some-clause-entered
 returns-in-Some-clause-entered c = λ base may has.
@@ -111,7 +111,7 @@ returns-in-Some-clause-entered c = λ base may has.
     let names = entered-names p c.args.code.now request.target (body_of p items) next c.requires.code c.program-program.ensures.formed c.program-program.ensures.valid (may-enter p g.columns request (body_of p items) may.asks) moved may.in_step.names in
     let z = view c.place_again-entry.new.pass in let told = c.place_again-entry.result in let e = view c.drop_units.new.pass in
     let drops = subst (λ (us : List ℕ). DropsEach us z e) c.as_slice.ensures c.drop_units.ensures.dropped in
-    subst (λ (w : View). HasRespawned g x wanted (priority_next x request) base (Some c.in-Some.entry) w) (sym c.keep_count.ensures.view)
-    (subst (λ (r : Priority). HasRespawned g x wanted r base (Some c.in-Some.entry) e) c.priority_after-priority.ensures
-    (subst (λ o. HasRespawned g x wanted c.priority_after-priority.result base o e) c.in-Some.is
-    (gone-on g x wanted n c.args.behind base v may.in_step has next given frame is_next names parts c.priority_after-priority.result told z c.place_again-entry.ensures.placed e drops)))
+    subst (λ (w : View). HasRespawned g x wanted (priority_next x request) (IsEnteredHeld p request.target items) base (Some c.in-Some.entry) w) (sym c.keep_count.ensures.view)
+    (subst (λ (r : Priority). HasRespawned g x wanted r (IsEnteredHeld p request.target items) base (Some c.in-Some.entry) e) c.priority_after-priority.ensures
+    (subst (λ o. HasRespawned g x wanted c.priority_after-priority.result (IsEnteredHeld p request.target items) base o e) c.in-Some.is
+    (gone-on g x wanted n c.args.behind base v may.in_step has next given frame is_next names parts c.priority_after-priority.result told z c.place_again-entry.ensures.placed e drops (IsEnteredHeld p request.target items) moved)))

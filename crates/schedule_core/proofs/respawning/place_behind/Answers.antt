@@ -28,9 +28,9 @@ join-entry-requires-clause-may c =
     let refers = subst (λ (m : ℕ). Refers m c.args.pass.now c.clone_future-kept.result c.clone_future-kept.new.pass) c.of-named.ensures c.clone_future-kept.ensures.future in
     let wrote = subst (λ (m : ℕ). WritesFrame m items cloned w) c.unit-unit.ensures c.write_frame.ensures.written in
     let x = view c.wait_again-waiter.new.pass in
-    let places = subst (λ (ws : List ℕ). PlacesNext g true c.args.started n ws c.write_frame.new.pass c.wait_again-waiter.new.pass) c.as_slice.ensures.value c.wait_again-waiter.ensures.view in
+    let places = subst (λ (ws : List ℕ). PlacesNext g true c.args.started n ws c.args.priority c.write_frame.new.pass c.wait_again-waiter.new.pass) c.as_slice.ensures.value c.wait_again-waiter.ensures.view in
     subst (λ (m : ℕ). MayJoin g.plan b m x) (sym c.wait_again-waiter.ensures.waiter)
-    (may-join g u n b t refers.found items v cloned w may refers.view_is wrote places.found x places.view_is c.requires.may.predecessor.0 c.requires.may.predecessor.1)
+    (may-join g u n b t refers.found items v cloned w may refers.view_is wrote c.args.priority places.found x places.view_is c.requires.may.predecessor.0 c.requires.may.predecessor.1)
 
 pub drop_future-requires-clause-may : goal.drop_future-requires-clause-may
 drop_future-requires-clause-may c =
@@ -39,11 +39,11 @@ drop_future-requires-clause-may c =
     let refers = subst (λ (m : ℕ). Refers m c.args.pass.now c.clone_future-kept.result c.clone_future-kept.new.pass) c.of-named.ensures c.clone_future-kept.ensures.future in
     let wrote = subst (λ (m : ℕ). WritesFrame m items cloned w) c.unit-unit.ensures c.write_frame.ensures.written in
     let x = view c.wait_again-waiter.new.pass in
-    let places = subst (λ (ws : List ℕ). PlacesNext g true c.args.started n ws c.write_frame.new.pass c.wait_again-waiter.new.pass) c.as_slice.ensures.value c.wait_again-waiter.ensures.view in
+    let places = subst (λ (ws : List ℕ). PlacesNext g true c.args.started n ws c.args.priority c.write_frame.new.pass c.wait_again-waiter.new.pass) c.as_slice.ensures.value c.wait_again-waiter.ensures.view in
     let y = view c.join-entry.new.pass in
     let joined = subst (λ (m : ℕ). JoinsBehind g m c.args.behind x c.join-entry.result y) c.wait_again-waiter.ensures.waiter c.join-entry.ensures.joined in
     subst (λ (m : ℕ). MayLessen g m y) (sym refers.unit_is)
-    (may-drop g u n b t refers.found items v cloned w may refers.view_is wrote places.found x places.view_is c.join-entry.result y joined c.requires.may.predecessor.0)
+    (may-drop g u n b t refers.found items v cloned w may refers.view_is wrote c.args.priority places.found x places.view_is c.join-entry.result y joined c.requires.may.predecessor.0)
 
 pub returns-clause-placed : goal.returns-clause-placed
 returns-clause-placed c =
@@ -52,9 +52,9 @@ returns-clause-placed c =
     let refers = subst (λ (m : ℕ). Refers m c.args.pass.now c.clone_future-kept.result c.clone_future-kept.new.pass) c.of-named.ensures c.clone_future-kept.ensures.future in
     let wrote = subst (λ (m : ℕ). WritesFrame m items cloned w) c.unit-unit.ensures c.write_frame.ensures.written in
     let x = view c.wait_again-waiter.new.pass in
-    let places = subst (λ (ws : List ℕ). PlacesNext g true c.args.started n ws c.write_frame.new.pass c.wait_again-waiter.new.pass) c.as_slice.ensures.value c.wait_again-waiter.ensures.view in
+    let places = subst (λ (ws : List ℕ). PlacesNext g true c.args.started n ws c.args.priority c.write_frame.new.pass c.wait_again-waiter.new.pass) c.as_slice.ensures.value c.wait_again-waiter.ensures.view in
     let y = view c.join-entry.new.pass in
     let joined = subst (λ (m : ℕ). JoinsBehind g m c.args.behind x c.join-entry.result y) c.wait_again-waiter.ensures.waiter c.join-entry.ensures.joined in
     let gives = dropped-one g.plan (Some b) b y (view c.drop_future.new.pass) refl (subst (λ (m : ℕ). Drops g.plan m y (view c.drop_future.new.pass)) refers.unit_is c.drop_future.ensures.view)
     (subst (λ (m : ℕ). GivesBack m y (view c.drop_future.new.pass)) refers.unit_is c.drop_future.ensures.hand) in
-    placed-behind g u n b t refers.found items v cloned w may refers.view_is wrote places.found x places.view_is c.join-entry.result y joined (view c.drop_future.new.pass) gives c.args.priority t
+    placed-behind g u n b t refers.found items v cloned w may refers.view_is wrote c.args.priority places.found x places.view_is c.join-entry.result y joined (view c.drop_future.new.pass) gives t

@@ -18,6 +18,6 @@ pub returns-clause-placed : goal.returns-clause-placed
 returns-clause-placed c =
     let g = c.args.shared.now.setup in let u = c.args.started.unit in let n = c.args.number in let items = c.args.next.now.items in let v = view c.args.pass.now in let w = view c.write_frame.new.pass in
     let wrote = subst (λ (m : ℕ). WritesFrame m items v w) c.unit-unit.ensures c.write_frame.ensures.written in
-    let places = subst (λ (ws : List ℕ). PlacesNext g false c.args.started n ws c.write_frame.new.pass c.ready_again-word.new.pass) c.as_slice.ensures.value c.ready_again-word.ensures.view in
+    let places = subst (λ (ws : List ℕ). PlacesNext g false c.args.started n ws c.args.priority c.write_frame.new.pass c.ready_again-word.new.pass) c.as_slice.ensures.value c.ready_again-word.ensures.view in
     subst (λ e. PlacesAgain g u n c.args.priority None items v (Some e) (view c.ready_again-word.new.pass)) (sym (c.entry_of.ensures ∙ ap (λ (m : ℕ). entry_of m c.ready_again-word.result) c.unit-unit.ensures))
     (placed-ready g u n None items v c.requires.may w wrote c.args.priority c.ready_again-word.result places.found (view c.ready_again-word.new.pass) places.view_is c.ready_again-word.ensures.word)

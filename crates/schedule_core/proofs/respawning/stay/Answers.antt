@@ -1,4 +1,4 @@
-use Rattle.std.proofs.Common.{◌∙◌, Some, None, [], length, sym, ap, subst, arith}
+use Rattle.std.proofs.Common.{◌≡◌, ◌∙◌, Some, None, [], length, refl, sym, ap, subst, arith}
 use Rattle.std.specs.Prelude.{slice_index}
 use Rattle.task_syntax.specs.declared.program.Program.{Program}
 use Rattle.task_syntax.specs.declared.value.Priority.TheVariants.{Low}
@@ -43,5 +43,5 @@ returns-clause-stays c = λ base may has.
     let in_step = may.in_step in
     let is_next = next-stays p (body_at p (slice_index in_step.run.words)) (body_of p items) in_step.same in_step.way (null-single p g.columns (body_of p items) may.asks) in
     let z = view c.place_ready-entry.new.pass in
-    subst (λ (w : View). HasRespawned g x None Low base (Some c.place_ready-entry.result) w) (sym c.keep_count.ensures.view)
-    (gone-on g x None n None base v in_step has items [] in_step.frame is_next in_step.names (λ w. omega arith) Low (Some c.place_ready-entry.result) z c.place_ready-entry.ensures.placed z (drops-none z))
+    subst (λ (w : View). HasRespawned g x None Low (λ words. words ≡ items) base (Some c.place_ready-entry.result) w) (sym c.keep_count.ensures.view)
+    (gone-on g x None n None base v in_step has items [] in_step.frame is_next in_step.names (λ w. omega arith) Low (Some c.place_ready-entry.result) z c.place_ready-entry.ensures.placed z (drops-none z) (λ words. words ≡ items) refl)

@@ -59,6 +59,6 @@ returns-clause-spawned c base may gives later =
     c.passed_by.ensures.passed c.unit_of.ensures c.as_slice.result.now c.program-program.ensures.formed c.program-program.ensures.valid c.passed_by.ensures.agrees c.as_slice.ensures c.entry_frame.ensures.frame c.entry_frame.ensures.entry in
     let told = c.make_in_block.ensures.made base wants gives later in (
       made-spawned c.args.shared.now.setup c.args.running.now c.args.request.now base c.args.code.now c.passed_by.new.passed c.unit_of.result new may c.requires.code c.passed_by.ensures.passed c.unit_of.ensures
-          c.make_in_block.result (view c.make_in_block.new.pass) told.0,
+          wants c.make_in_block.result (view c.make_in_block.new.pass) told.0,
       told.1,
     )
