@@ -32,7 +32,8 @@ fn run_of(
     requires table { IsOf shared.now pass.old }
     requires code { code.now ≡ shared.now.setup.checked }
     requires taken { HasTaken shared.now.setup started held (view pass.old) }
-    ensures pass { IsSameWith (held + length (named_in code.now result.frame.items)) pass.old pass.new }
+    ensures pass { IsSameWith (held + length (named_in code.now result.frame.items))
+        pass.old pass.new }
     ensures run { RunsTaken shared.now.setup started priority
         (view pass.old) result (view pass.new) }
 {

@@ -109,4 +109,4 @@ pub record MayPlaceNext (g : Setup) (waits : Bool) (started : Started) (number :
 pub record PlacesNext (g : Setup) (waits : Bool) (started : Started) (number : ℕ) (words : List ℕ) (priority : Priority) (old new : Pass) : Type 0 where
   pub found : ℕ
   pub view_is : (run : Run) → RunAt g.plan started.unit (view old) run
-    → view new ≡ saw (state started.unit) found (logged (placing_of waits started.unit number priority words) (placed_next waits g.checked run number words (view old)))
+      → view new ≡ saw (state started.unit) found (logged (placing_of waits started.unit number priority words) (placed_next waits g.checked run number words (view old)))

@@ -124,7 +124,8 @@ impl Shared {
         ensures exactly { IsSome result ↔ (1 ≤ chain.length) }
         ensures none { IfNone result (view pass.new ≡ view pass.old) }
         ensures some { IfSome result (λ t. TakesFirst (plan self.now) chain pass.old t pass.new) }
-        ensures sound { IfSome result (λ t. AreSound self.now.setup (view pass.old) (view pass.new)) }
+        ensures sound { IfSome result (λ t.
+            AreSound self.now.setup (view pass.old) (view pass.new)) }
     {
         let unit = chain.first?;
         let word = own_word(&self.setup.plan, unit, OwnWord::Next);

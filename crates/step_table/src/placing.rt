@@ -66,7 +66,8 @@ impl Shared {
         ensures sound { AreSound self.now.setup (view pass.old) (view pass.new) }
         ensures waiter { result.0.unit ≡ made.unit }
         ensures future { result.1.unit ≡ made.unit }
-        ensures view { PlacesMade self.now.setup true made number priority placement pass.old pass.new }
+        ensures view { PlacesMade self.now.setup true made number priority placement
+            pass.old pass.new }
     {
         let unit = made.unit;
         let word = state_word(&self.setup.plan, unit);
@@ -92,7 +93,8 @@ impl Shared {
         ensures sound { AreSound self.now.setup (view pass.old) (view pass.new) }
         ensures word { result.0 ≡ word_placed false number priority }
         ensures future { result.1.unit ≡ made.unit }
-        ensures view { PlacesMade self.now.setup false made number priority placement pass.old pass.new }
+        ensures view { PlacesMade self.now.setup false made number priority placement
+            pass.old pass.new }
     {
         let unit = made.unit;
         let word = state_word(&self.setup.plan, unit);
@@ -118,7 +120,8 @@ impl Shared {
         ensures pass { IsSame pass.old pass.new }
         ensures sound { AreSound self.now.setup (view pass.old) (view pass.new) }
         ensures waiter { result.unit ≡ started.unit }
-        ensures view { PlacesNext self.now.setup true started number words.now priority pass.old pass.new }
+        ensures view { PlacesNext self.now.setup true started number words.now priority
+            pass.old pass.new }
     {
         let unit = started.unit;
         let word = state_word(&self.setup.plan, unit);
@@ -143,7 +146,8 @@ impl Shared {
         ensures pass { IsSame pass.old pass.new }
         ensures sound { AreSound self.now.setup (view pass.old) (view pass.new) }
         ensures word { result ≡ word_placed false number priority }
-        ensures view { PlacesNext self.now.setup false started number words.now priority pass.old pass.new }
+        ensures view { PlacesNext self.now.setup false started number words.now priority
+            pass.old pass.new }
     {
         let unit = started.unit;
         let word = state_word(&self.setup.plan, unit);

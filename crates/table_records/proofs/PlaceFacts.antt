@@ -7,7 +7,7 @@ use Rattle.record_core.specs.Counting.{times, dropped}
 use Rattle.frame_code.specs.Names.{named}
 use Rattle.table_core.specs.Addresses.{Addr, state, task, refs, head, frame}
 use Rattle.table_core.specs.Asking.{Drawn, OfTask}
-use Rattle.table_core.specs.Holdings.{Run, SawTask}
+use Rattle.table_core.specs.Holdings.{Run, SawTask, Placing}
 use Rattle.table_core.specs.Own.{known_in}
 use Rattle.table_core.specs.RecordViews.{is_made_at}
 use Rattle.table_core.specs.Story.{IsAccepted}
@@ -18,15 +18,16 @@ use Rattle.schedule_rule.specs.DrawViews.{ask, asking, drawn_for}
 use Rattle.schedule_rule.specs.Frames.{BagSound}
 use Rattle.schedule_rule.specs.LifeViews.{KnowsOver, MayStart}
 use Rattle.schedule_rule.specs.Parts.{bags, seen}
-use Rattle.schedule_rule.specs.PlacingViews.{less, kept_sights, is_drawn, waiting_with, past_act, with_act_past, MayStartUnless, MayPlace}
+use Rattle.schedule_rule.specs.PlacingViews.{less, kept_sights, is_drawn, waiting_with, past_act, with_act_past, MayStartUnless, MayPlace, logged}
 use Rattle.schedule_rule.proofs.CoveringFacts.{more-cover}
+use Rattle.task_syntax.specs.declared.value.Priority.TheVariants.{Regular}
 use Rattle.step_table.specs.declared.pass.Pass.{Pass}
 use Rattle.step_table.specs.declared.record_tokens.Made.{Made as MadeValue}
 use Rattle.step_table.specs.declared.record_tokens.Started.{Started}
 use Rattle.step_table.specs.DrawSteps.{IsNewNumber}
 use Rattle.step_table.specs.Lookups.{run_in}
 use Rattle.step_table.specs.Passes.{view}
-use Rattle.step_table.specs.PlacingSteps.{Placement, ForRun, placed_made, IsByRun, MayPlaceMade, PlacesMade}
+use Rattle.step_table.specs.PlacingSteps.{Placement, ForRun, placed_made, placing_of, IsByRun, MayPlaceMade, PlacesMade}
 use Rattle.table_records.specs.Makers.{IsMaker, words_of, placement_by}
 use Rattle.table_records.specs.Plain.{call_behind, plain_words}
 use Rattle.table_records.specs.Records.{Spawned, Spawns}
@@ -146,9 +147,9 @@ module _ (g : Setup) (maker : Started) (u n : ℕ) (behind : Option ℕ) (w v0 :
       (more-cover g.checked v0.runs v0.futures (made.unit ∷ v0.futures) (λ x. omega arith) bag))
 
   -- what the placing leaves
-  pub placed-is : (waits : Bool) (made : MadeValue) → made.unit ≡ u → (f : ℕ) (new : View)
-      → new ≡ saw (state made.unit) f (placed_made waits g.checked made n (record { call = call_behind behind; words = plain_words; asked = ForRun maker.unit is.run.words }) now) → Spawned waits u n behind v0 new
-  placed-is waits made unit_is f new e = subst (Spawned waits u n behind v0) (sym e) base
+  pub placed-is : (waits : Bool) (made : MadeValue) → made.unit ≡ u → (f : ℕ) (x : Placing) (new : View)
+      → new ≡ saw (state made.unit) f (logged x (placed_made waits g.checked made n (record { call = call_behind behind; words = plain_words; asked = ForRun maker.unit is.run.words }) now)) → Spawned waits u n behind v0 new
+  placed-is waits made unit_is f x new e = subst (Spawned waits u n behind v0) (sym e) base
     where
       runs : with_act_past maker.unit is.run.words (asking maker.unit v0.runs) ≡ v0.runs
       runs = asked-placed maker.unit is.run.words v0.runs is.run is.at.there refl
@@ -165,7 +166,7 @@ module _ (g : Setup) (maker : Started) (u n : ℕ) (behind : Option ℕ) (w v0 :
       drawn_left : dropped (is_drawn n) (its ∷ v0.drawn) ≡ v0.drawn
       drawn_left = ap (λ (b : Bool). cond b v0.drawn (its ∷ dropped (is_drawn n) v0.drawn)) (eq-eqb n n refl)
 
-      base : Spawned waits u n behind v0 (saw (state made.unit) f (placed_made waits g.checked made n (record { call = call_behind behind; words = plain_words; asked = ForRun maker.unit is.run.words }) now))
+      base : Spawned waits u n behind v0 (saw (state made.unit) f (logged x (placed_made waits g.checked made n (record { call = call_behind behind; words = plain_words; asked = ForRun maker.unit is.run.words }) now)))
       base = λ k. record (placed_made waits g.checked made n (record { call = call_behind behind; words = plain_words; asked = ForRun maker.unit is.run.words }) now) {
         made = made_left k;
         waiting = waiting_with waits (unit_is k) n v0.waiting;
@@ -173,6 +174,7 @@ module _ (g : Setup) (maker : Started) (u n : ℕ) (behind : Option ℕ) (w v0 :
         futures = left k;
         sights = SawTask (unit_is k) n ∷ kept_sights (left k) v0.sights;
         drawn = drawn_left k;
+        placings = x ∷ now.placings;
         seen = (state made.unit, f) ∷ w.seen;
       }
 
@@ -211,13 +213,15 @@ module _ (g : Setup) (maker : Started) (made : MadeValue) (n : ℕ) (behind : Op
       })
 
   -- and what that leaves
-  pub places-it : (waits : Bool) (new : Pass) → PlacesMade g waits made n (placement_by maker.unit behind (view pass)) pass new → Spawned waits made.unit n behind v0 (view new)
+  pub places-it : (waits : Bool) (new : Pass) → PlacesMade g waits made n Regular (placement_by maker.unit behind (view pass)) pass new → Spawned waits made.unit n behind v0 (view new)
   places-it waits new told =
-      placed-is g maker made.unit n behind (view pass) v0 is draft.is_new waits made refl told.found (view new)
-      (told.view_is ∙ (λ k. saw (state made.unit) told.found (placed_made waits g.checked made n (placement-is g maker made.unit n behind v0 (view pass) is draft k) (draft.view_is k))))
+      placed-is g maker made.unit n behind (view pass) v0 is draft.is_new waits made refl told.found (placing_of waits made.unit n Regular plain_words) (view new)
+      (told.view_is
+      ∙ (λ k. saw (state made.unit) told.found (logged (placing_of waits made.unit n Regular (placement-is g maker made.unit n behind v0 (view pass) is draft k).words)
+      (placed_made waits g.checked made n (placement-is g maker made.unit n behind v0 (view pass) is draft k) (draft.view_is k)))))
 
-  pub spawns-it : (waits : Bool) (new : Pass) (u : ℕ) → u ≡ made.unit → PlacesMade g waits made n (placement_by maker.unit behind (view pass)) pass new → Spawns g waits u behind v0 n (view new)
+  pub spawns-it : (waits : Bool) (new : Pass) (u : ℕ) → u ≡ made.unit → PlacesMade g waits made n Regular (placement_by maker.unit behind (view pass)) pass new → Spawns g waits u behind v0 n (view new)
   spawns-it waits new u its told = subst (λ (x : ℕ). Spawns g waits x behind v0 n (view new)) (sym its) (record { near = draft.is_block.inside; within = draft.is_new.within; view_is = places-it waits new told })
 
-  pub still-maker : (waits : Bool) (new : Pass) → PlacesMade g waits made n (placement_by maker.unit behind (view pass)) pass new → IsMaker g maker (view new)
+  pub still-maker : (waits : Bool) (new : Pass) → PlacesMade g waits made n Regular (placement_by maker.unit behind (view pass)) pass new → IsMaker g maker (view new)
   still-maker waits new told = maker-stays g maker v0 (view new) (ap (λ (w : View). w.runs) (places-it waits new told)) is

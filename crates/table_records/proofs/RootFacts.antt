@@ -119,7 +119,7 @@ taken-maker g u n ready old new started plain told sound number_is knows =
 
 -- the task of the first root runs once it is placed and taken
 pub root-runs : (g : Setup) (n : ℕ) (ready : StateWord) (made : MadeValue) (v0 : View) (p0 p1 p2 : Pass) (started : Started) → IsPlain g.checked → RootDrafts g made.unit v0 n (view p0)
-    → PlacesMade g false made n root_placement p0 p1 → (told : TakesRecord g made.unit ready p1 started p2) → told.call ≡ call_behind None → ready.number ≡ n → RootRuns g started v0 (view p2)
+    → PlacesMade g false made n Regular root_placement p0 p1 → (told : TakesRecord g made.unit ready p1 started p2) → told.call ≡ call_behind None → ready.number ≡ n → RootRuns g started v0 (view p2)
 root-runs g n ready made v0 p0 p1 p2 started plain draft placed told call_is number_is = record {
   near = subst (λ (x : ℕ). x < units_of g.plan) (sym told.unit_is) draft.is_block.inside;
   some = λ e. absurd (omega (arith, draft.is_new.within.0, e, its));

@@ -26,6 +26,7 @@ Spawned waits u n behind old new = new ≡ record old {
   calls = (n, call_behind behind) ∷ old.calls;
   facts = IsAccepted n (call_behind behind) ∷ old.facts;
   may_draw = 0;
+  placings = new.placings;
   seen = new.seen;
 }
 

@@ -30,7 +30,8 @@ fn place_waiting(
     ensures sound { SoundView shared.now.setup (view pass.new) }
     ensures waiter { result.0.unit ≡ made.unit }
     ensures future { result.1.unit ≡ made.unit }
-    ensures view { PlacesMade shared.now.setup true made number placement pass.old pass.new }
+    ensures view { PlacesMade shared.now.setup true made number Regular placement
+        pass.old pass.new }
 {
     shared.wait_made(pass, made, number, Priority::Regular)
 }
@@ -51,7 +52,8 @@ fn place_ready(
     ensures sound { SoundView shared.now.setup (view pass.new) }
     ensures word { result.0 ≡ word_placed false number Regular }
     ensures future { result.1.unit ≡ made.unit }
-    ensures view { PlacesMade shared.now.setup false made number placement pass.old pass.new }
+    ensures view { PlacesMade shared.now.setup false made number Regular placement
+        pass.old pass.new }
 {
     shared.ready_made(pass, made, number, Priority::Regular)
 }

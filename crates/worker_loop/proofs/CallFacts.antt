@@ -130,8 +130,8 @@ past-alone g x y body came given left units old new a past balanced = record {
 }
 
 -- where the task's next activation was placed, the pass is idle
-pub respawned-idle : (g : Setup) (x : Running) (wanted : Option ℕ) (priority : Priority) (old : View) (told : Option Entry) (new : View) → RunsAlone g x [] old → HasRespawned g x wanted priority old told new → IsIdle new
-respawned-idle g x wanted priority old told new a has = idle-of new (ap others has.view_is ∙ a.none)
+pub respawned-idle : (g : Setup) (x : Running) (wanted : Option ℕ) (priority : Priority) (IsNext : List ℕ → Type 0) (old : View) (told : Option Entry) (new : View) → RunsAlone g x [] old → HasRespawned g x wanted priority IsNext old told new → IsIdle new
+respawned-idle g x wanted priority IsNext old told new a has = idle-of new (ap others has.view_is ∙ a.none)
     (ap (λ (v : View). v.runs) has.view_is ∙ dropped-run x.started.unit old.runs a.in_step.run a.one a.in_step.at.there)
     (ap (λ (v : View). v.futures) has.view_is ∙ less-all old.futures (named_in g.checked x.frame.items) (λ w. omega (arith, a.bag w)))
     (ap (λ (v : View). v.chains) has.view_is ∙ a.chains)

@@ -18,11 +18,12 @@ use Rattle.worker_loop.specs.Serving.{Places}
 use Rattle.worker_loop.specs.Working.{Runs, RunsAlone, Stands}
 use Rattle.worker_loop.proofs.CallFacts.{respawned-idle, limited-alone, past-alone, advanced-alone}
 
-pub places : (g : Setup) (x : Running) (wanted : Option ℕ) (priority : Priority) (told : Respawned) (old new : Pass) → Runs g x [] old → GoesOnWith g x wanted priority (view old) told (view new) → new.held ≡ held_respawned g x old.held told
+pub places : (g : Setup) (x : Running) (wanted : Option ℕ) (priority : Priority) (IsNext : List ℕ → Type 0) (told : Respawned) (old new : Pass) → Runs g x [] old
+    → GoesOnWith g x wanted priority IsNext (view old) told (view new) → new.held ≡ held_respawned g x old.held told
     → Places g told new
-places g x wanted priority respawned.Waits old new r has held = record { idle = respawned-idle g x wanted priority (view old) None (view new) r.alone has; count = omega (arith, held, r.count) }
-places g x wanted priority (respawned.Ready e) old new r has held = record { idle = respawned-idle g x wanted priority (view old) (Some e) (view new) r.alone has; count = omega (arith, held, r.count) }
-places g x wanted priority (respawned.Over back) old new r has held =
+places g x wanted priority IsNext respawned.Waits old new r has held = record { idle = respawned-idle g x wanted priority IsNext (view old) None (view new) r.alone has; count = omega (arith, held, r.count) }
+places g x wanted priority IsNext (respawned.Ready e) old new r has held = record { idle = respawned-idle g x wanted priority IsNext (view old) (Some e) (view new) r.alone has; count = omega (arith, held, r.count) }
+places g x wanted priority IsNext (respawned.Over back) old new r has held =
     let both = limited-alone g x (view old) back (view new) r.alone has in
     (record { alone = both.0; made_is = ap (λ (z : Running). option_to_list z.made) has.back_is ∙ r.made_is; count = held ∙ r.count ∙ ap (λ (z : Running). length {A = ℕ} [] + length (named_in g.checked z.frame.items)) (sym has.back_is) }, both.1)
 

@@ -187,7 +187,8 @@ fn refuse<Q: ReadyStore, R: Wait>(
     requires store { Q.is_pass scheduler.now.ready worker.old.qpass }
     requires runs { Runs scheduler.now.shared.setup running [] worker.old.pass }
     requires refused { running.refused ≡ Some Null }
-    requires asks { retry ≡ true → AsksOnNull scheduler.now.shared.setup.checked scheduler.now.shared.setup.columns
+    requires asks { retry ≡ true → AsksOnNull
+        scheduler.now.shared.setup.checked scheduler.now.shared.setup.columns
         (body_of scheduler.now.shared.setup.checked running.frame.items) }
     ensures store { Q.is_pass scheduler.now.ready worker.new.qpass }
     ensures goes { GoesOn worker.old.pass worker.new.pass }
@@ -241,7 +242,8 @@ fn answer<Q: ReadyStore, R: Wait>(
     requires table { IsOf scheduler.now.shared worker.old.pass }
     requires code { code.now ≡ scheduler.now.shared.setup.checked }
     requires store { Q.is_pass scheduler.now.ready worker.old.qpass }
-    requires answered { Answers scheduler.now.shared.setup running to retry spawned worker.old.pass }
+    requires answered { Answers scheduler.now.shared.setup running to retry spawned
+        worker.old.pass }
     ensures store { Q.is_pass scheduler.now.ready worker.new.qpass }
     ensures goes { GoesOn worker.old.pass worker.new.pass }
     ensures served { Serves scheduler.now.shared.setup running result worker.new.pass }
@@ -347,7 +349,8 @@ fn serve_one<Q: ReadyStore, R: Wait>(
     requires runs { Runs scheduler.now.shared.setup running [] worker.old.pass }
     requires unrefused { running.refused ≡ None }
     requires asks { Asks scheduler.now.shared.setup.checked scheduler.now.shared.setup.columns
-        (act_told asked requests.now) (body_of scheduler.now.shared.setup.checked running.frame.items) }
+        (act_told asked requests.now)
+        (body_of scheduler.now.shared.setup.checked running.frame.items) }
     ensures store { Q.is_pass scheduler.now.ready worker.new.qpass }
     ensures goes { GoesOn worker.old.pass worker.new.pass }
     ensures served { Serves scheduler.now.shared.setup running result worker.new.pass }

@@ -18,7 +18,7 @@ respawn-respawned-requires-clause-room g c κs within = few-room c.args.schedule
 
 pub follow-requires-clause-placed : goal.follow-requires-clause-placed
 follow-requires-clause-placed g c κs within =
-    places c.args.scheduler.now.shared.setup c.args.running _ _ c.respawn-respawned.result c.args.worker.now.pass c.respawn-respawned.new.pass c.requires.runs c.respawn-respawned.ensures.respawned c.respawn-respawned.ensures.pass.held_is
+    places c.args.scheduler.now.shared.setup c.args.running _ _ _ c.respawn-respawned.result c.args.worker.now.pass c.respawn-respawned.new.pass c.requires.runs c.respawn-respawned.ensures.respawned c.respawn-respawned.ensures.pass.held_is
 
 pub returns-clause-goes : goal.returns-clause-goes
 returns-clause-goes g c = goes-then c.args.worker.now.pass c.respawn-respawned.new.pass c.follow.new.worker.pass (same-goes _ c.args.worker.now.pass c.respawn-respawned.new.pass c.respawn-respawned.ensures.pass) c.follow.ensures.goes

@@ -36,6 +36,6 @@ returns-clause-view c =
     record {
       found = told.0;
       view_is = λ run at. subst
-      (λ (word : ℕ). c.store_as.new.seat.me.0 ≡ saw (state c.args.started.unit) told.0 (logged (placing c.args.started.unit word c.args.words.now) (placed_next false c.args.self.now.setup.checked run c.args.number c.args.words.now c.args.pass.now.seat.me.0)))
-      (c.pack-new.ensures.packed ∙ ap packed_state c.ready_word-ready.ensures) (told.1 run at);
+          (λ (word : ℕ). c.store_as.new.seat.me.0 ≡ saw (state c.args.started.unit) told.0 (logged (placing c.args.started.unit word c.args.words.now) (placed_next false c.args.self.now.setup.checked run c.args.number c.args.words.now c.args.pass.now.seat.me.0)))
+          (c.pack-new.ensures.packed ∙ ap packed_state c.ready_word-ready.ensures) (told.1 run at);
     }

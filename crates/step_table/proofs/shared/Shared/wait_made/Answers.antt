@@ -36,6 +36,6 @@ returns-clause-view g c =
     record {
       found = told.0;
       view_is = subst
-      (λ (word : ℕ). c.store_as.new.seat.me.0 ≡ saw (state c.args.made.unit) told.0 (logged (placing c.args.made.unit word g.placement.words) (placed_made true c.args.self.now.setup.checked c.args.made c.args.number g.placement c.args.pass.now.seat.me.0)))
-      (c.pack-waiting.ensures.packed ∙ ap packed_state c.waiting_word.ensures) told.1;
+          (λ (word : ℕ). c.store_as.new.seat.me.0 ≡ saw (state c.args.made.unit) told.0 (logged (placing c.args.made.unit word g.placement.words) (placed_made true c.args.self.now.setup.checked c.args.made c.args.number g.placement c.args.pass.now.seat.me.0)))
+          (c.pack-waiting.ensures.packed ∙ ap packed_state c.waiting_word.ensures) told.1;
     }
