@@ -1,5 +1,5 @@
 -- The records of the roots that a line names: which root has none, and what is left where references to them are taken.
-use Rattle.std.specs.Prelude.{◌≡◌, ℕ, ◌<◌, Option, Some, None, List, [], ◌∷◌, ◌++◌, length, map}
+use Rattle.std.specs.Prelude.{◌≡◌, ℕ, ◌<◌, Option, Some, None, List, [], ◌∷◌, ◌++◌, map}
 use Rattle.std.specs.Option.{option_to_list}
 use Rattle.record_core.specs.Counting.{At, Has, times}
 use Rattle.task_syntax.specs.declared.program.RootArgument.{RootArgument}
