@@ -27,8 +27,7 @@ pub fn split_worker<Q: ReadyStore>(
     requires store { Q.is_pass scheduler.now.ready worker.qpass }
     requires split { Q.may_split worker.qpass }
     requires splits { 0 < worker.pass.splits }
-    ensures tables {
-        IsOf scheduler.now.shared result.0.pass × IsOf scheduler.now.shared result.1.pass }
+    ensures tables { IsOf scheduler.now.shared result.0.pass × IsOf scheduler.now.shared result.1.pass }
     ensures stores { Q.is_pass scheduler.now.ready result.0.qpass
         × Q.is_pass scheduler.now.ready result.1.qpass }
     ensures split { Q.may_split result.0.qpass }
