@@ -118,6 +118,7 @@ module _ (g : Setup) (x : Running) (request : AllRequest) (v : View) (q : Progra
           units = units;
           units_are = sym units-all;
           words = new.first.items;
+          is_frame = (frame g.checked).0;
           frame = (frame g.checked).1;
           gets = subst (λ (n : ℕ). GetsTask g x request.to (group_class n) request.priority m.number new.first.items (OfAll m.call_is.0) (Some b) v future entry after) units-long
               (subst (λ (a : Accepted). GetsTask g x request.to (group_class (length units)) request.priority m.number new.first.items a (Some b) v future entry after) m.call_is.2 gets);

@@ -340,6 +340,7 @@ module _ (g : Setup) (root : ℕ) (line : RootLine) (made : Made) (v : View) (ba
       passed = x.passed.items;
       passes = is_task.passes;
       words = x.first.items;
+      is_frame = is_task.frame;
       first = is_task.entry;
       reads = λ k r at. read-more begun.seen.0 (drops.seen.0 ++ names.placed.steps) r (read-roots k r at);
       looks = (begun.looks.0, ap (λ (y : View). y.looks) whole ∙ begun.looks.1);

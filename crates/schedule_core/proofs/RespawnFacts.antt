@@ -289,6 +289,7 @@ module _ (g : Setup) (x : Running) (wanted : Option ℕ) (number : ℕ) (behind 
             enters = enters-later u number priority behind told drops.seen.0 (places.steps ++ has.steps) drops.elsewhere (enters-more u number priority behind told places.steps has.steps places.enters);
           };
           words = next;
+          is_frame = frame;
           next = is_one;
           saw = saw-more behind drops.seen.0 (places.steps ++ has.steps) (saw-more behind places.steps has.steps has.saw);
           facts = (

@@ -113,6 +113,7 @@ module _ (g : Setup) (x : Running) (request : SpawnRequest) (v : View) (q : Prog
     behind = m.behind;
     behind_is = m.behind_is ∙ its_wanted;
     words = new.first.items;
+    is_frame = wants.frame;
     first = wants.begins.2;
     gets = subst (λ (a : Accepted). GetsTask g x request.to (kind_class g.checked request.kind) request.priority m.number new.first.items a m.behind v future entry after) m.call_is.2 m.gets;
   }

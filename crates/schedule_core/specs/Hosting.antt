@@ -11,6 +11,7 @@ use Rattle.task_meaning.specs.Roots.{root_call}
 use Rattle.task_meaning.specs.Worths.{OfCall}
 use Rattle.ready_queues.specs.declared.entry.Entry.{Entry}
 use Rattle.frame_code.specs.Entries.{IsEntryOf}
+use Rattle.frame_code.specs.Frames.{IsFrame}
 use Rattle.frame_code.specs.declared.entries.Passed.{Passed}
 use Rattle.frame_code.specs.declared.entries.Passed.TheVariants as passed
 use Rattle.kt_words.specs.declared.plan.Plan.{Plan}
@@ -90,6 +91,7 @@ pub record HasHosted (g : Setup) (line : RootLine) (asked : List RootSays) (old 
   pub passed : List Passed
   pub passes : ArePassedAs asked line.arguments passed
   pub words : List ℕ
+  pub is_frame : IsFrame g.checked words
   pub first : IsEntryOf g.checked line.kind passed words
   pub looks : Grows old.looks new.looks
   pub facts : Grows old.facts new.facts

@@ -11,6 +11,7 @@ use Rattle.task_meaning.specs.Meant.{future_at}
 use Rattle.task_meaning.specs.Worths.{Respawn}
 use Rattle.ready_queues.specs.declared.entry.Entry.{Entry}
 use Rattle.frame_code.specs.Control.{is_aggregate}
+use Rattle.frame_code.specs.Frames.{IsFrame}
 use Rattle.frame_code.specs.Members.{member_act}
 use Rattle.frame_code.specs.Setting.{BodyHasSort}
 use Rattle.frame_code.specs.Stops.{StopsAt}
@@ -72,6 +73,7 @@ pub record HasRespawned (g : Setup) (x : Running) (wanted : Option ℕ) (priorit
   pub placed : PlacesNumber g.plan.limit x.started.unit number priority behind told old new
   pub saw : SawBehind behind placed.steps
   pub words : List ℕ
+  pub is_frame : IsFrame g.checked words
   pub next : IsNext words
   pub facts : Grows old.facts new.facts
   pub settles : Grows old.settles new.settles

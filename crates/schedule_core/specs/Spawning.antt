@@ -4,6 +4,7 @@ use Rattle.task_meaning.specs.Frame.{CallOf}
 use Rattle.task_meaning.specs.Worths.{OfCall}
 use Rattle.ready_queues.specs.declared.entry.Entry.{Entry}
 use Rattle.frame_code.specs.Entries.{future_of, number_of, Passes, IsEntryOf}
+use Rattle.frame_code.specs.Frames.{IsFrame}
 use Rattle.frame_code.specs.Setting.{unit_in}
 use Rattle.frame_code.specs.Stops.{StopsAt}
 use Rattle.frame_code.specs.Words.{BodyOf, OfKind, OfMembers, body_of}
@@ -62,6 +63,7 @@ pub record HasSpawned (g : Setup) (x : Running) (request : SpawnRequest) (old : 
   pub behind : Option Behind
   pub behind_is : unit_behind behind ≡ named_if g.checked x.frame.items request.behind
   pub words : List ℕ
+  pub is_frame : IsFrame g.checked words
   pub first : IsEntryOf g.checked request.kind given words
   pub gets : GetsTask g x request.to (kind_class g.checked request.kind) request.priority number words (OfCall call waits) behind old future entry new
 

@@ -2,6 +2,7 @@
 use Rattle.std.specs.Prelude.{◌≡◌, ℕ, ◌<◌, Option, Some, None, List, map, length, slice_get}
 use Rattle.task_meaning.specs.Worths.{OfAll}
 use Rattle.ready_queues.specs.declared.entry.Entry.{Entry}
+use Rattle.frame_code.specs.Frames.{IsFrame}
 use Rattle.frame_code.specs.Setting.{unit_in}
 use Rattle.frame_code.specs.Words.{OfMembers, body_of}
 use Rattle.frame_code.specs.declared.act.Act.TheVariants as act
@@ -46,6 +47,7 @@ pub record HasSpawnedAll (g : Setup) (x : Running) (request : AllRequest) (old :
   pub units : List ℕ
   pub units_are : units_all g x request ≡ map Some units
   pub words : List ℕ
+  pub is_frame : IsFrame g.checked words
   pub frame : body_of g.checked words ≡ OfMembers units 1
   pub gets : GetsTask g x request.to (group_class (length request.members)) request.priority number words (OfAll members) (Some behind) old future entry new
 

@@ -317,12 +317,12 @@ module _ (g : Setup) (id : ℕ) (v : View) where
           subst (λ (w : View). LawfulAfter g s (put m (sum 0) ((m (sum 0) + 1) % 2 ^ 64)) (slice_set vs id w)) same
               (_, one-call s _, now valid_form valid m vs s l at asked has_turn few no_task line is_line a call y has no_number class_is may in_use low),
           ((λ _. refl), (λ far. absurd (omega (arith, low, far)))),
-          (refl, refl),
+          (refl, refl, inl refl),
         )
     | inr far ↦ (
       saw (sum 0) (m (sum 0)) (drew_none (OfRoot (length asked)) v),
       (s, same-story s, none_drawn g id v m vs s l at (OfRoot (length asked)) may in_use (omega (arith, far))),
       ((λ low. absurd (omega (arith, low, far))), (λ _. refl)),
-      (refl, refl),
+      (refl, refl, inl refl),
     )
   ]

@@ -96,12 +96,12 @@ module _ (g : Setup) (id : ℕ) (v : View) where
           new_view,
           subst (λ (w : View). LawfulAfter g s (put m (sum 0) ((m (sum 0) + 1) % 2 ^ 64)) (slice_set vs id w)) same (_, one-call s _, now m vs s l at a knows.0 knows.1 y has no_number class_is r runs_r none may in_use low),
           ((λ _. refl), (λ far. absurd (omega (arith, low, far)))),
-          (refl, refl),
+          (refl, refl, inl refl),
         )
     | inr far ↦ (
       saw (sum 0) (m (sum 0)) (drew_none (OfTask r.task) v),
       (s, same-story s, none_drawn g id v m vs s l at (OfTask r.task) may in_use (omega (arith, far))),
       ((λ low. absurd (omega (arith, low, far))), (λ _. refl)),
-      (refl, refl),
+      (refl, refl, inl refl),
     )
   ]

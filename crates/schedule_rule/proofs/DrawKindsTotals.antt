@@ -150,7 +150,7 @@ module _ (g : Setup) (id : ℕ) (v : View) where
       saw (sum 0) (m (sum 0)) (permitted v),
       kept_word g s m (sum 0) (m (sum 0)) (slice_set vs id (saw (sum 0) (m (sum 0)) (permitted v))) refl (s, same-story s, record { table = drawn-table m vs s l at in_use; schedule = drawn-says m vs s l at in_use low }),
       ((λ _. refl), (λ far. absurd (omega (arith, low, far)))),
-      (refl, refl),
+      (refl, refl, inl refl),
     )
     | inr far ↦ (
       saw (sum 0) (m (sum 0)) (told_limit asker v),
@@ -160,9 +160,9 @@ module _ (g : Setup) (id : ℕ) (v : View) where
     )
   ]
     where
-      steps : (asker : Option Asker) (n : ℕ) → Stepped (sum 0) n v (saw (sum 0) n (told_limit asker v))
-      steps None n = (refl, refl)
-      steps (Some asker) n = (refl, refl)
+      steps : (asker : Option Asker) (n : ℕ) → Stepped (sum 0) n n v (saw (sum 0) n (told_limit asker v))
+      steps None n = (refl, refl, inl refl)
+      steps (Some asker) n = (refl, refl, inl refl)
 
   -- see total, of what lives
   pub sees-live-at : Keeps g id v (sum 1) (λ n. n) (λ r w. w ≡ saw (sum 1) r (saw_live g.plan.roots r v))
@@ -177,5 +177,5 @@ module _ (g : Setup) (id : ℕ) (v : View) where
       },
     ),
     refl,
-    (refl, refl),
+    (refl, refl, inl refl),
   )

@@ -234,4 +234,4 @@ module _ (g : Setup) (id : ℕ) (v : View) where
   -- fill: an own word of a record that is made, or the frame or the result of one that runs
   pub fills-at : (a : Addr) (n : ℕ) → is_own v.made v.runs a ≡ true → is_filled a ≡ true → Keeps g id v a (λ k. n) (λ r w. (k : ℕ) × (w ≡ saw a k (filled a n v)))
   fills-at a n mine may m vs s l at small =
-      (saw a (m a) (filled a n v), (s, same-story s, record { table = fill-lawful g id v m vs s l.table at a n mine may; schedule = fill-says m vs s l at a n mine may }), (m a, refl), (refl, refl))
+      (saw a (m a) (filled a n v), (s, same-story s, record { table = fill-lawful g id v m vs s l.table at a n mine may; schedule = fill-says m vs s l at a n mine may }), (m a, refl), (refl, refl, inl refl))

@@ -346,7 +346,7 @@ module _ (g : Setup) (id : ℕ) (v : View) where
       },
     ),
     (m (state r.unit), r.class, refl, class-same),
-    (refl, refl),
+    (refl, refl, inl refl),
   )
     where
       class-same : (x : Run) → Has x v.runs → x.unit ≡ r.unit → x.class ≡ r.class

@@ -198,7 +198,7 @@ module _ (g : Setup) (id : ℕ) (v : View) where
     after_close m vs s l at d has,
     (s, same-story s, record { table = close-table g id v m vs s l.table at d has unclosed in_use; schedule = close-says m vs s l at d has }),
     (taken m vs s l at d has, refl, close-taken g id v m vs s l.table at d has unclosed in_use),
-    (refl, refl),
+    (refl, refl, inl refl),
   )
 
   -- unchain: the first of a chain of the hand
@@ -216,7 +216,7 @@ module _ (g : Setup) (id : ℕ) (v : View) where
       },
     ),
     (members, (number m vs s l at u members has, more m vs s l at u members has, refl, may-start m vs s l at u members has), is_rest),
-    (refl, refl),
+    (refl, refl, inl refl),
   )
     where
       is_rest : IsRest v.chains u (m (next u)) members

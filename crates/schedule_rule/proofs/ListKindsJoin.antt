@@ -197,7 +197,7 @@ module _ (g : Setup) (id : ℕ) (v : View) where
           },
         ),
         (tells m vs s l at u has v.tries, told.1, told.2),
-        (refl, refl),
+        (refl, refl, inl refl),
       )
 
   -- link: a waiter of the hand
@@ -207,7 +207,7 @@ module _ (g : Setup) (id : ℕ) (v : View) where
     saw (next x.unit) (m (next x.unit)) (linked x.unit seen_head v),
     (s, same-story s, record { table = link-table g id v m vs s l.table at x has in_use seen_head; schedule = link-says m vs s l at x has seen_head }),
     (m (next x.unit), refl),
-    (refl, refl),
+    (refl, refl, inl refl),
   )
 
   -- join: a waiter of the hand, linked to the head that it is pushed over, whose call is behind the task that was seen there
@@ -220,7 +220,7 @@ module _ (g : Setup) (id : ℕ) (v : View) where
       exchanged (m (head u)) old new
       (λ n. (w : View) × LawfulAfter g s (put m (head u) n) (slice_set vs id w)
       × (TriedJoin u x.unit old v (m (head u)) w × IsHeadWord (m (head u)) × IsLater old (m (head u)) × (m (head u) ≢ closed_word → length_of (m (head u)) ≤ units_of g.plan))
-      × Stepped (head u) (m (head u)) v w)
+      × Stepped (head u) (m (head u)) n v w)
       (λ e. (
         saw (head u) (m (head u)) (joined_list x.unit v),
         subst (λ (n : ℕ). LawfulAfter g s (put m (head u) n) (slice_set vs id (saw (head u) (m (head u)) (joined_list x.unit v))))
@@ -233,7 +233,7 @@ module _ (g : Setup) (id : ℕ) (v : View) where
               },
             ),
         ((λ same. refl, λ ne. absurd (ne e)), told.1, told.2, told.3),
-        (refl, refl),
+        (refl, refl, inl refl),
       ))
       (λ ne. (
         after_look m vs s l at u has (v.tries + 1),
@@ -247,5 +247,5 @@ module _ (g : Setup) (id : ℕ) (v : View) where
           },
         ),
         ((λ same. absurd (ne same), λ e. tells m vs s l at u has (v.tries + 1)), told.1, told.2, told.3),
-        (refl, refl),
+        (refl, refl, inl refl),
       ))

@@ -292,7 +292,7 @@ module _ (g : Setup) (id : ℕ) (v : View) where
     after_in m vs s l at r has uncounted some in_use,
     (s, same-story s, record { table = in-table m vs s l at r has uncounted some in_use; schedule = in-says m vs s l at r has uncounted some in_use }),
     refl,
-    (refl, refl),
+    (refl, refl, inl refl),
   )
 
   -- count out: a done record that is counted still
@@ -301,7 +301,7 @@ module _ (g : Setup) (id : ℕ) (v : View) where
     after_out m vs s l at d has counted closed in_use,
     (s, same-story s, record { table = out-table m vs s l at d has counted closed in_use; schedule = out-says m vs s l at d has counted closed in_use }),
     refl,
-    (refl, refl),
+    (refl, refl, inl refl),
   )
 
   -- spill
@@ -310,5 +310,5 @@ module _ (g : Setup) (id : ℕ) (v : View) where
     after_spill m vs s l at 1,
     (s, same-story s, record { table = spill-table m vs s l at 1; schedule = spill-says m vs s l at 1 }),
     (m (sum 4), refl),
-    (refl, refl),
+    (refl, refl, inl refl),
   )

@@ -173,7 +173,7 @@ module _ (g : Setup) (id : ℕ) (v : View) where
               (covers (l.schedule bags id (seen bags v) (at_map (seen bags) vs id v at))),
         ),
         (m (state r.unit), refl),
-        (refl, refl),
+        (refl, refl, inr (r.unit, words, refl, refl)),
       )
 
   -- the number of a made record is placed that was drawn for a root
@@ -188,5 +188,5 @@ module _ (g : Setup) (id : ℕ) (v : View) where
           (root-unplaced g id v m vs s l at d (may.placeable).drawn root by_it) (covers (l.schedule bags id (seen bags v) (at_map (seen bags) vs id v at))),
     ),
     (m (state r.unit), refl),
-    (refl, refl),
+    (refl, refl, inr (r.unit, words, refl, refl)),
   )

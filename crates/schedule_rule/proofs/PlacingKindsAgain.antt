@@ -319,5 +319,5 @@ module _ (g : Setup) (id : ℕ) (v : View) where
     _,
     (s, same-story s, again-placed g id v m vs s l at waits r d words may in_use word parked (covers (l.schedule bags id (seen bags v) (at_map (seen bags) vs id v at)))),
     (m (state r.unit), refl),
-    (refl, refl),
+    (refl, refl, inr (r.unit, words, refl, refl)),
   )

@@ -36,8 +36,9 @@ use Rattle.table_core.proofs.RecordWords.{forgets}
 use Rattle.table_core.proofs.ReferenceBound.{in-few}
 use Rattle.table_core.proofs.Rule.{frames, moves}
 use Rattle.table_core.proofs.SightFacts.{sights-written}
+use Rattle.table_core.specs.Steps.{placing as placed_at}
 use Rattle.schedule_rule.specs.Parts.{AllSay}
-use Rattle.schedule_rule.specs.PlacingViews.{less, is_drawn, placed_again, placing as placed_at, logged, IsPlacedWord, MayPlaceAgain}
+use Rattle.schedule_rule.specs.PlacingViews.{less, is_drawn, placed_again, logged, IsPlacedWord, MayPlaceAgain}
 use Rattle.schedule_rule.proofs.PlacingFacts.{length-less, times-less, kept-known, dropped-other}
 use Rattle.schedule_rule.proofs.PlacingFactsFrames.{named-same, control-same, next-short}
 use Rattle.schedule_rule.proofs.PlacingFactsRecords.{IsPlaced, used-same, was-live, now-record, referred-placed, fits-placed, waits-placed}

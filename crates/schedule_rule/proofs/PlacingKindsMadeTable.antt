@@ -37,10 +37,11 @@ use Rattle.table_core.proofs.RecordKinds.{no-cond, made-dropped, state-here, sta
 use Rattle.table_core.proofs.RecordWords.{words-state, forgets, made-one, own-left}
 use Rattle.table_core.proofs.Rule.{frames, moves}
 use Rattle.table_core.proofs.SightFacts.{sighted, sights-written}
+use Rattle.table_core.specs.Steps.{placing as placed_at}
 use Rattle.schedule_rule.specs.Calls.{AtNumber, IsNumber}
 use Rattle.schedule_rule.specs.Counts.{class_in}
 use Rattle.schedule_rule.specs.Parts.{facts, classes, AllSay, seen as rule_seen}
-use Rattle.schedule_rule.specs.PlacingViews.{kept_sights, is_drawn, futures_with, phase_placed, placed, placing as placed_at, logged, IsPlacedWord, MayPlace}
+use Rattle.schedule_rule.specs.PlacingViews.{kept_sights, is_drawn, futures_with, phase_placed, placed, logged, IsPlacedWord, MayPlace}
 use Rattle.schedule_rule.proofs.ChangedFacts.{AreAs}
 use Rattle.schedule_rule.proofs.DrawKinds.{drawn-numbers}
 use Rattle.schedule_rule.proofs.PlacingFacts.{length-less, times-less, kept-known}

@@ -176,5 +176,5 @@ module _ (g : Setup) (id : ℕ) (v : View) where
           },
         ),
         (m (state x.unit), refl),
-        (refl, refl),
+        (refl, refl, inl refl),
       )

@@ -225,7 +225,7 @@ module _ (g : Setup) (id : ℕ) (v : View) where
     saw (state x.unit) (m (state x.unit)) (founded x v),
     (s, same-story s, record { table = found-table g id v m vs s l.table at x has fresh in_use; schedule = found-parts m vs s l at x has fresh in_use }),
     (m (state x.unit), refl),
-    (refl, refl),
+    (refl, refl, inl refl),
   )
 
   pub unmakes-at : (r : Made) → Has r v.made → r.number ≡ 0 → r.live ≡ false → 1 ≤ v.parts → Keeps g id v (state r.unit) (λ n. 0) (λ k w. (n : ℕ) × (w ≡ saw (state r.unit) n (unmade r.unit r.class v)))
@@ -233,5 +233,5 @@ module _ (g : Setup) (id : ℕ) (v : View) where
     saw (state r.unit) (m (state r.unit)) (unmade r.unit r.class v),
     (s, same-story s, record { table = unmake-table g id v m vs s l.table at r has no_number in_use; schedule = unmake-parts m vs s l at r has no_number not_counted in_use }),
     (m (state r.unit), refl),
-    (refl, refl),
+    (refl, refl, inl refl),
   )

@@ -146,5 +146,5 @@ module _ (g : Setup) (id : ℕ) (v : View) where
     saw (state u) (m (state u)) (retired u (class_of (m (super (superblock_of g.plan u)))) v),
     (s, same-story s, record { table = retire-table g id v m vs s l.table at u near has in_use; schedule = retire-says m vs s l at u near has in_use (class_of (m (super (superblock_of g.plan u)))) }),
     (class_of (m (super (superblock_of g.plan u))), in_block g id v m vs s l.table at u near has in_use, (m (state u), refl)),
-    (refl, refl),
+    (refl, refl, inl refl),
   )

@@ -142,7 +142,7 @@ module _ (g : Setup) (id : ℕ) (v : View) where
     saw (journal n 0) (m (journal n 0)) (wrote_task n v),
     (s, same-story s, record { table = task-table m vs s l at n call knows in_use lacks; schedule = task-says m vs s l at n call knows in_use lacks }),
     (m (journal n 0), refl),
-    (refl, refl),
+    (refl, refl, inl refl),
   )
 
   -- row After
@@ -152,5 +152,5 @@ module _ (g : Setup) (id : ℕ) (v : View) where
     saw (journal n 1) (m (journal n 1)) (wrote_after n v),
     (s, same-story s, record { table = after-table m vs s l at n call knows in_use lacks; schedule = after-says m vs s l at n call knows in_use lacks }),
     (m (journal n 1), refl),
-    (refl, refl),
+    (refl, refl, inl refl),
   )

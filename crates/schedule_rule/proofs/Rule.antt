@@ -40,9 +40,13 @@ unwritten-kept m a n written zeros b not = by (is_same a b) refl
     by true same = absurd (true≢false (sym written ∙ ap is_written (same-is a b same) ∙ not))
     by false other = zeros b not
 
+-- all that a kind of step tells, of the number found and of that which it writes there
+abbrev TellsAll : Addr → (ℕ → ℕ) → (ℕ → View → Type 0) → Me (Unit {0}) View → ℕ → Me (Unit {0}) View → Type 0
+TellsAll a f told old found new = told found new.0 × Stepped a found (f found) old.0 new.0 × (new.1 ≡ old.1)
+
 -- a kind of step that keeps the rule over addresses keeps it over the words as they lie
 may_step : (g : Setup) (slots id : ℕ) (me : Me (Unit {0}) View) (a : Addr) (f : ℕ → ℕ) (told : ℕ → View → Type 0)
-    → is_there g.plan a ≡ true → is_written a ≡ true → Keeps g id me.0 a f told → Allows (holds_at g) slots id me (address g.plan a) f (Tells a told me)
+    → is_there g.plan a ≡ true → is_written a ≡ true → Keeps g id me.0 a f told → Allows (holds_at g) slots id me (address g.plan a) f (TellsAll a f told me)
 may_step g slots id me a f told there written keeps s holds homes at small =
     let m : Mem = mem_of g.plan s.words in
     let read : m a ≡ slice_index s.words (address g.plan a) = mem_at g.plan s.words a there in
@@ -58,21 +62,28 @@ may_step g slots id me a f told there written keeps s holds homes at small =
         subst (λ (n : Mem). Lawful g n (slice_set s.views id new)) put_there (step.1.0, step.1.2),
         subst UnwrittenAreZero put_there (unwritten-kept m a (f (m a)) written holds.2),
       ),
-      (subst (λ (n : ℕ). told n new) read step.2, subst (λ (n : ℕ). Stepped a n me.0 new) read step.3, refl),
+      (subst (λ (n : ℕ). told n new) read step.2, subst (λ (n : ℕ). Stepped a n (f n) me.0 new) read step.3, refl),
     )
 
+allows_all : (g key : Setup) (slots id word : ℕ) (me : Me (Unit {0}) View) (a : Addr) (f : ℕ → ℕ) (told : ℕ → View → Type 0)
+    → key ≡ g → word ≡ address g.plan a → is_there g.plan a ≡ true → is_written a ≡ true → Keeps g id me.0 a f told → Allows (holds_at key) slots id me word f (TellsAll a f told me)
+allows_all g key slots id word me a f told keyed placed there written keeps =
+    subst (λ (k : Setup). Allows (holds_at k) slots id me word f (TellsAll a f told me)) (sym keyed)
+    (subst (λ (w : ℕ). Allows (holds_at g) slots id me w f (TellsAll a f told me)) (sym placed) (may_step g slots id me a f told there written keeps))
+
+-- it tells the number found
 pub allows : (g key : Setup) (slots id word : ℕ) (me : Me (Unit {0}) View) (a : Addr) (f : ℕ → ℕ) (told : ℕ → View → Type 0)
     → key ≡ g → word ≡ address g.plan a → is_there g.plan a ≡ true → is_written a ≡ true → Keeps g id me.0 a f told → Allows (holds_at key) slots id me word f (Tells a told me)
-allows g key slots id word me a f told keyed placed there written keeps =
-    subst (λ (k : Setup). Allows (holds_at k) slots id me word f (Tells a told me)) (sym keyed)
-    (subst (λ (w : ℕ). Allows (holds_at g) slots id me w f (Tells a told me)) (sym placed) (may_step g slots id me a f told there written keeps))
+allows g key slots id word me a f told keyed placed there written keeps s holds homes at small =
+    let step = allows_all g key slots id word me a f told keyed placed there written keeps s holds homes at small in
+    (step.0, step.1, step.2, step.3, (step.4.0, (step.4.1.0, step.4.1.1), step.4.2))
 
 -- a store tells what it wrote, and not what it found
 pub stores : (g key : Setup) (slots id word new : ℕ) (me : Me (Unit {0}) View) (a : Addr) (told : ℕ → View → Type 0)
     → key ≡ g → word ≡ address g.plan a → is_there g.plan a ≡ true → is_written a ≡ true → Keeps g id me.0 a (λ n. new) (λ n. told new)
     → Allows (holds_at key) slots id me word (λ n. new) (λ n. TellsStored a told me new)
 stores g key slots id word new me a told keyed placed there written keeps s holds homes at small =
-    let step = allows g key slots id word me a (λ n. new) (λ n. told new) keyed placed there written keeps s holds homes at small in
+    let step = allows_all g key slots id word me a (λ n. new) (λ n. told new) keyed placed there written keeps s holds homes at small in
     (step.0, step.1, step.2, step.3, (step.4.0, (slice_index s.words word, step.4.1), step.4.2))
 
 -- a word is written as it was

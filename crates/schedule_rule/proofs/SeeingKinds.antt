@@ -141,7 +141,7 @@ module _ (g : Setup) (id : ℕ) (v : View) where
     saw a (m a) v,
     (s, same-story s, seen-says m vs s l at a),
     (refl, (table-reads g id v a m vs s l.table at small).2.1 n known),
-    (refl, refl),
+    (refl, refl, inl refl),
   )
 
   -- a load of a superblock's word, which tells the class of a block there
@@ -149,7 +149,7 @@ module _ (g : Setup) (id : ℕ) (v : View) where
       (λ r w. (w ≡ saw (super (superblock_of g.plan u)) r v) × (class_of r ≤ 3) × ((x : Block) → Has x v.blocks → x.unit ≡ u → class_of r ≡ x.class))
   class-glances-at u near m vs s l at small =
       let told = (table-class-glances g id v u near m vs s l.table at small).2 in let i : ℕ = superblock_of g.plan u in
-      (saw (super i) (m (super i)) v, (s, same-story s, seen-says m vs s l at (super i)), (refl, told.1, told.2), (refl, refl))
+      (saw (super i) (m (super i)) v, (s, same-story s, seen-says m vs s l at (super i)), (refl, told.1, told.2), (refl, refl, inl refl))
 
   -- see task
   pub sees-task-at : (u : ℕ) → 1 ≤ times u v.futures → Keeps g id v (task u) (λ n. n) (SeesTask g.plan.limit u v)
@@ -166,7 +166,7 @@ module _ (g : Setup) (id : ℕ) (v : View) where
           },
         ),
         record { view_is = refl; some = is.0.0; few = omega (arith, is.0.1, (l.table totals).drawn); same = λ t saw_it. sym (task-seen m vs s l at u has t saw_it) },
-        (refl, refl),
+        (refl, refl, inl refl),
       )
 
   -- see state, under a reference
@@ -184,7 +184,7 @@ module _ (g : Setup) (id : ℕ) (v : View) where
           },
         ),
         ((facts_now.0, refl, facts_now.1.1, over m vs s l at u has), t.2.1),
-        (refl, refl),
+        (refl, refl, inl refl),
       )
 
   -- see a waiter of the hand
@@ -195,5 +195,5 @@ module _ (g : Setup) (id : ℕ) (v : View) where
         saw (state x.unit) (m (state x.unit)) v,
         (s, same-story s, seen-says m vs s l at (state x.unit)),
         (refl, record { shaped = l.table shaped x.unit there.0; waits = there.1; number_is = sym ((l.table waits).numbers id (table_seen waits v) mine has.0 x has.1) }),
-        (refl, refl),
+        (refl, refl, inl refl),
       )

@@ -108,5 +108,5 @@ module _ (g : Setup) (id : ℕ) (v : View) where
           },
         ),
         (more.0, refl, more.1.1, gives m vs s l at u word saw_done),
-        (refl, refl),
+        (refl, refl, inl refl),
       )

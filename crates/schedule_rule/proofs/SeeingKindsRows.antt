@@ -1,5 +1,5 @@
 -- The two rows of the number of a running record are seen: nobody lacks them, so they say its task and its predecessor.
-use Rattle.std.proofs.Common.{◌≡◌, ◌∙◌, ℕ, ◌≤◌, ◌==◌, Bool, true, cond, Option, Some, None, List, [], ◌∷◌, map, length, refl, sym, ap, subst, arith}
+use Rattle.std.proofs.Common.{◌≡◌, ◌∙◌, ℕ, ◌≤◌, ◌==◌, Bool, true, cond, Option, Some, None, List, [], ◌∷◌, map, length, refl, sym, ap, subst, arith, inl}
 use Rattle.std.specs.Prelude.{IfSome}
 use Rattle.record_core.specs.Sums.{total}
 use Rattle.record_core.specs.Counting.{At, Has, one_if, times}
@@ -131,7 +131,7 @@ module _ (g : Setup) (id : ℕ) (v : View) where
     saw (journal r.number 0) (m (journal r.number 0)) v,
     (s, same-story s, seen-says g id v m vs s l at (journal r.number 0)),
     (refl, task-row m vs s l at r has),
-    (refl, refl),
+    (refl, refl, inl refl),
   )
 
   -- the row of its predecessor
@@ -140,5 +140,5 @@ module _ (g : Setup) (id : ℕ) (v : View) where
     saw (journal r.number 1) (m (journal r.number 1)) v,
     (s, same-story s, seen-says g id v m vs s l at (journal r.number 1)),
     (refl, is-after-row m vs s l at r has),
-    (refl, refl),
+    (refl, refl, inl refl),
   )

@@ -335,7 +335,7 @@ module _ (g : Setup) (id : ℕ) (v : View) where
   pub takes-at : (u : ℕ) → u < units_of g.plan → 1 ≤ v.parts → (ready word : ℕ) → IsTaking ready word → Keeps g id v (state u) (λ n. either (n == ready) word n) (Takes g u ready v)
   takes-at u near in_use ready word is m vs s l at small =
       exchanged (m (state u)) ready word
-      (λ n. (w : View) × LawfulAfter g s (put m (state u) n) (slice_set vs id w) × Takes g u ready v (m (state u)) w × Stepped (state u) (m (state u)) v w)
+      (λ n. (w : View) × LawfulAfter g s (put m (state u) n) (slice_set vs id w) × Takes g u ready v (m (state u)) w × Stepped (state u) (m (state u)) n v w)
       (λ e.
       let was : phase_of (m (state u)) ≡ 3 = ap phase_of e ∙ is.was in
       let numbered : number_of word ≡ number_of (m (state u)) = is.number ∙ ap number_of (sym e) in (
@@ -346,6 +346,6 @@ module _ (g : Setup) (id : ℕ) (v : View) where
           (λ ne. absurd (ne e)),
           l.table shaped u near,
         ),
-        (refl, refl),
+        (refl, refl, inl refl),
       ))
       (λ ne. let t = glances-at g id v (state u) m vs s l at small in (t.0, t.1, ((λ e. absurd (ne e)), (λ _. t.2.0), l.table shaped u near), t.3))

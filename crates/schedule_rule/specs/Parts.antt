@@ -175,7 +175,7 @@ module _ (g : Setup) where
   LawfulAfter s m vs = (after : Story) × Grows s after × AllSay after m vs
 
   -- A step that writes f of what it finds at one word may be made: whatever the table and the story are then, some new view of the
-  -- pass keeps the rule, with a story that goes on from that one; it has seen what was found, and is what the step tells.
+  -- pass keeps the rule, with a story that goes on from that one; it has seen what was found, what it placed was written, and it is what the step tells.
   abbrev pub Keeps : ℕ → View → Addr → (ℕ → ℕ) → (ℕ → View → Type 0) → Type 0
   Keeps id v a f told = (m : Mem) (vs : List View) (s : Story) → AllSay s m vs → slice_get vs id ≡ Some v → m a < 18446744073709551616
-      → (w : View) × LawfulAfter s (put m a (f (m a))) (slice_set vs id w) × told (m a) w × Stepped a (m a) v w
+      → (w : View) × LawfulAfter s (put m a (f (m a))) (slice_set vs id w) × told (m a) w × Stepped a (m a) (f (m a)) v w

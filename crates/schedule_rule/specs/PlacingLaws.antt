@@ -9,10 +9,11 @@ use Rattle.table_core.specs.Holdings.{Made, Run}
 use Rattle.table_core.specs.Views.{saw}
 use Rattle.table_core.specs.declared.setup.Setup.{Setup}
 use Rattle.table_core.specs.declared.view.View.{View}
+use Rattle.table_core.specs.Steps.{placing}
 use Rattle.schedule_rule.specs.Frames.{BagSound}
 use Rattle.schedule_rule.specs.LifeViews.{IsMovedFrame}
 use Rattle.schedule_rule.specs.Parts.{bags, seen, Keeps}
-use Rattle.schedule_rule.specs.PlacingViews.{placed_for_run, placed_for_root, placed_again, placing, logged, IsPlacedWord, MayPlace, MayPlaceAgain}
+use Rattle.schedule_rule.specs.PlacingViews.{placed_for_run, placed_for_root, placed_again, logged, IsPlacedWord, MayPlace, MayPlaceAgain}
 
 -- the references that are left are enough for the frames that run afterwards, provided they were enough before
 abbrev pub StillCovers : Setup → View → View → Type 0

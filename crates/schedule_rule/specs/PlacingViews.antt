@@ -85,10 +85,6 @@ placed_again waits u c t n taken v = record v {
   answers = answers_left t v.answers;
 }
 
--- the record at u has a number from now on: its state word and its frame
-abbrev pub placing : ℕ → ℕ → List ℕ → Placing
-placing u word words = record { unit = u; word = word; words = words }
-
 -- the hand keeps what it placed
 abbrev pub logged : Placing → View → View
 logged x v = record v { placings = x ∷ v.placings }

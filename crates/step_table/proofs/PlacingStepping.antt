@@ -13,9 +13,10 @@ use Rattle.table_core.specs.Views.{saw}
 use Rattle.table_core.specs.declared.setup.Setup.{Setup}
 use Rattle.table_core.specs.declared.view.View.{View}
 use Rattle.table_core.proofs.ListFacts.{same_some}
+use Rattle.table_core.specs.Steps.{placing}
 use Rattle.schedule_rule.specs.Parts.{Keeps}
 use Rattle.schedule_rule.specs.PlacingLaws.{StillCovers}
-use Rattle.schedule_rule.specs.PlacingViews.{less, with_act_past, placed, placed_again, placing, logged, phase_placed, IsPlacedWord}
+use Rattle.schedule_rule.specs.PlacingViews.{less, with_act_past, placed, placed_again, logged, phase_placed, IsPlacedWord}
 use Rattle.schedule_rule.proofs.PlacingFacts.{length-less}
 use Rattle.schedule_rule.proofs.PlacingKindsActs.{places-for_run-at, places-for_root-at}
 use Rattle.schedule_rule.proofs.PlacingKindsAgain.{places-again-at}

@@ -15,9 +15,10 @@ use Rattle.table_core.specs.Holdings.{Made as MadeOf, Run, Placing}
 use Rattle.table_core.specs.Views.{saw}
 use Rattle.table_core.specs.declared.setup.Setup.{Setup}
 use Rattle.table_core.specs.declared.view.View.{View}
+use Rattle.table_core.specs.Steps.{placing}
 use Rattle.schedule_rule.specs.LifeViews.{IsMovedFrame}
 use Rattle.schedule_rule.specs.PlacingLaws.{StillCovers}
-use Rattle.schedule_rule.specs.PlacingViews.{with_act_past, placed, placed_again, placing, logged, MayPlace, MayPlaceAgain}
+use Rattle.schedule_rule.specs.PlacingViews.{with_act_past, placed, placed_again, logged, MayPlace, MayPlaceAgain}
 use Rattle.step_table.specs.declared.pass.Pass.{Pass}
 use Rattle.step_table.specs.declared.record_tokens.Made.{Made}
 use Rattle.step_table.specs.declared.record_tokens.Started.{Started}

@@ -1,6 +1,7 @@
 //! One function for each atomic operation on one word. What a step tells is picked by its call.
 ghost use Rattle.std.specs.Prelude.{◌≡◌, ◌==◌, ℕ, bit_and, bit_or};
 ghost use prog.Atomic.{either};
+ghost use Rattle.table_core.specs.Steps.{LogsWritten};
 
 use crate::shared::Shared;
 use crate::told::{Stored, Told, Wish};
@@ -115,13 +116,14 @@ impl Shared {
         self.table.shared.swap::<Told<W>>(seat, word, new)
     }
 
-    // A store does not tell what it found.
+    // A store does not tell what it found. What it places it has written.
     pub(crate) fn store_of<W: Wish>(&self, seat: &mut Seat<(), View>, word: usize, new: u64)
         requires table { seat.old.table_id ≡ self.now.table.shared.table_id }
         requires word { LiesAt self.now.setup.plan W.at word }
         requires rule { MayStep self.now.setup seat.old W.at (always new) (λ _. W.told new) }
         ensures same { IsSameSeat seat.old seat.new }
         ensures seen { (found : ℕ) × HasSeen W.at found seat.old.me.0 seat.new.me.0 }
+        ensures logged { LogsWritten W.at new seat.old.me.0 seat.new.me.0 }
         ensures told { W.told new seat.new.me.0 }
     {
         self.table.shared.store::<Stored<W>>(seat, word, new)

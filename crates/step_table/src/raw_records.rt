@@ -1,5 +1,6 @@
 //! Those of them that only steps on records make.
 ghost use Rattle.std.specs.Prelude.{◌≡◌, ℕ};
+ghost use Rattle.table_core.specs.Steps.{LogsWritten};
 
 use crate::shared::Shared;
 use crate::told::Wish;
@@ -59,6 +60,7 @@ impl Shared {
         requires rule { MayStep self.now.setup seat.old W.at (always new) (λ _. W.told new) }
         ensures same { IsSameSeat seat.old seat.new }
         ensures seen { (found : ℕ) × HasSeen W.at found seat.old.me.0 seat.new.me.0 }
+        ensures logged { LogsWritten W.at new seat.old.me.0 seat.new.me.0 }
         ensures told { W.told new seat.new.me.0 }
         ensures sound { AreSound self.now.setup seat.old.me.0 seat.new.me.0 }
     {

@@ -287,7 +287,7 @@ module _ (g : Setup) (id : ℕ) (v : View) where
 
   -- read own: what is known is what is found
   pub reads-at : (a : Addr) → Keeps g id v a (λ n. n) (λ r w. (w ≡ saw a r (learnt a r v)) × ((n : ℕ) → known_in a v.known ≡ Some n → r ≡ n))
-  reads-at a m vs s l at small = (saw a (m a) (learnt a (m a) v), kept_word g s m a (m a) _ refl (read-parts m vs s l at a), (refl, read-told m vs s l at a), (refl, refl))
+  reads-at a m vs s l at small = (saw a (m a) (learnt a (m a) v), kept_word g s m a (m a) _ refl (read-parts m vs s l at a), (refl, read-told m vs s l at a), (refl, refl, inl refl))
 
   -- see state
   pub sees-state-at : (u : ℕ) → u < units_of g.plan → Keeps g id v (state u) (λ n. n) (λ r w. (w ≡ saw (state u) r (saw_state u r v)) × IsStateWord r)
@@ -295,5 +295,5 @@ module _ (g : Setup) (id : ℕ) (v : View) where
     saw (state u) (m (state u)) (saw_state u (m (state u)) v),
     kept_word g s m (state u) (m (state u)) _ refl (see-parts m vs s l at u),
     (refl, l shaped u near),
-    (refl, refl),
+    (refl, refl, inl refl),
   )

@@ -259,18 +259,18 @@ module _ (g : Setup) (id : ℕ) (v : View) where
       (λ n. (w : View) × AllSay g s (put m (head u) n) (slice_set vs id w)
       × (Tried old (saw (head u) (m (head u)) (saw_head u (m (head u)) (tried v))) (saw (head u) (m (head u)) (joined_list x.unit v)) (m (head u)) w
       × IsHeadWord (m (head u)) × IsLater old (m (head u)) × (m (head u) ≢ closed_word → length_of (m (head u)) ≤ units_of g.plan))
-      × Stepped (head u) (m (head u)) v w)
+      × Stepped (head u) (m (head u)) n v w)
       (λ e. (
         saw (head u) (m (head u)) (joined_list x.unit v),
         subst (λ (n : ℕ). (q : Part) → Says g q s (put m (head u) n) (map (seen q) (slice_set vs id (saw (head u) (m (head u)) (joined_list x.unit v)))))
             (sym (new_is ∙ ap (λ (n : ℕ). head_word (x.unit + 1) (length_of n + 1)) (sym e)))
             (join-parts m vs s l at u has x has_waiter (linked_to ∙ ap Some (sym e)) (λ c. unclosed (sym e ∙ c)) in_use),
         ((λ same. refl, λ ne. absurd (ne e)), is.0, later, is.1),
-        (refl, refl),
+        (refl, refl, inl refl),
       ))
       (λ ne. (
         saw (head u) (m (head u)) (saw_head u (m (head u)) (tried v)),
         kept_word g s m (head u) (m (head u)) _ refl (try-parts m vs s l at u has),
         ((λ same. absurd (ne same), λ e. refl), is.0, later, is.1),
-        (refl, refl),
+        (refl, refl, inl refl),
       ))

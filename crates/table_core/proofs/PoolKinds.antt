@@ -283,25 +283,25 @@ module _ (g : Setup) (id : ℕ) (v : View) where
     after_look m vs s l at i c near,
     kept_word g s m (super i) (m (super i)) _ refl (look-parts m vs s l at i c near),
     (refl, class_near m vs s l at i c near),
-    (refl, refl),
+    (refl, refl, inl refl),
   )
 
   -- a try to reserve a place of a superblock keeps the rule
   pub reserves-at : (i c old new : ℕ) → i < g.plan.geometry.superblocks → c ≤ 3 → 1 ≤ v.parts → (class_of old ≡ c) ⊎ (count_of old ≡ 0) → count_of old < cap g.plan c → new ≡ reserved_word old c
       → Keeps g id v (super i) (λ n. either (n == old) new n) (λ r w. Tried old (saw (super i) r v) (saw (super i) r (reserved (place i c) v)) r w × (class_of r ≤ 3))
   reserves-at i c old new near low_class in_use which room new_is m vs s l at small = exchanged (m (super i)) old new
-      (λ n. (w : View) × AllSay g s (put m (super i) n) (slice_set vs id w) × (Tried old (saw (super i) (m (super i)) v) (saw (super i) (m (super i)) (reserved (place i c) v)) (m (super i)) w × (class_of (m (super i)) ≤ 3)) × Stepped (super i) (m (super i)) v w)
+      (λ n. (w : View) × AllSay g s (put m (super i) n) (slice_set vs id w) × (Tried old (saw (super i) (m (super i)) v) (saw (super i) (m (super i)) (reserved (place i c) v)) (m (super i)) w × (class_of (m (super i)) ≤ 3)) × Stepped (super i) (m (super i)) n v w)
       (λ e. (
         saw (super i) (m (super i)) (reserved (place i c) v),
         reserve-parts m vs s l at i c new near low_class in_use (subst (λ (x : ℕ). (class_of x ≡ c) ⊎ (count_of x ≡ 0)) (sym e) which) (omega (arith, room, ap count_of e)) (new_is ∙ ap (λ (x : ℕ). reserved_word x c) (sym e)) small,
         ((λ same. refl, λ ne. absurd (ne e)), class_near m vs s l at i c near),
-        (refl, refl),
+        (refl, refl, inl refl),
       ))
       (λ ne. (
         saw (super i) (m (super i)) v,
         kept_word g s m (super i) (m (super i)) _ refl (sees (super i) (m (super i)) m vs s l at),
         ((λ same. absurd (ne same), λ e. refl), class_near m vs s l at i c near),
-        (refl, refl),
+        (refl, refl, inl refl),
       ))
 
   -- the settling of a place keeps the rule
@@ -311,7 +311,7 @@ module _ (g : Setup) (id : ℕ) (v : View) where
     saw (super i) (m (super i)) (settled (place i c) v),
     settle-parts m vs s l at i c ((m (super i) + (2 ^ 64 - 1)) % 2 ^ 64) near in_use has (λ some. omega (arith, some, small)),
     refl,
-    (refl, refl),
+    (refl, refl, inl refl),
   )
 
   -- a try to claim a bit keeps the rule
@@ -321,18 +321,18 @@ module _ (g : Setup) (id : ℕ) (v : View) where
     where
       by : (bit_at (m (bits i (b / 64))) (b % 64) ≡ 0) ⊎ (bit_at (m (bits i (b / 64))) (b % 64) ≡ 1)
           → (w : View) × AllSay g s (put m (bits i (b / 64)) (bit_or (m (bits i (b / 64))) (one_bit b))) (slice_set vs id w)
-          × WonBit b (saw (bits i (b / 64)) (m (bits i (b / 64))) v) (saw (bits i (b / 64)) (m (bits i (b / 64))) (claimed g.plan (place i c) b v)) (m (bits i (b / 64))) w × Stepped (bits i (b / 64)) (m (bits i (b / 64))) v w
+          × WonBit b (saw (bits i (b / 64)) (m (bits i (b / 64))) v) (saw (bits i (b / 64)) (m (bits i (b / 64))) (claimed g.plan (place i c) b v)) (m (bits i (b / 64))) w × Stepped (bits i (b / 64)) (m (bits i (b / 64))) (bit_or (m (bits i (b / 64))) (one_bit b)) v w
       by (inl clear) = (
         saw (bits i (b / 64)) (m (bits i (b / 64))) (claimed g.plan (place i c) b v),
         claim-parts m vs s l at i c b near low_class below in_use has clear,
         (λ e. refl, λ e. absurd (omega (arith, clear, e))),
-        (refl, refl),
+        (refl, refl, inl refl),
       )
       by (inr set) = (
         saw (bits i (b / 64)) (m (bits i (b / 64))) v,
         kept_word g s m (bits i (b / 64)) _ _ (set_again (m (bits i (b / 64))) b set) (sees (bits i (b / 64)) (m (bits i (b / 64))) m vs s l at),
         (λ e. absurd (omega (arith, set, e)), λ e. refl),
-        (refl, refl),
+        (refl, refl, inl refl),
       )
 
   -- the clearing of a block's bit keeps the rule
@@ -343,7 +343,7 @@ module _ (g : Setup) (id : ℕ) (v : View) where
     saw (bits (superblock_of g.plan x.unit) (bit_of g.plan x.unit x.class / 64)) (m (bits (superblock_of g.plan x.unit) (bit_of g.plan x.unit x.class / 64))) (cleared g.plan x v),
     clear-parts m vs s l at x in_use has,
     refl,
-    (refl, refl),
+    (refl, refl, inl refl),
   )
 
   -- a load of any word, which tells that no pass has more than all parts, and none has more than one turn
@@ -352,4 +352,4 @@ module _ (g : Setup) (id : ℕ) (v : View) where
       let mine : v.parts ≤ total (λ (n : ℕ). n) (map (seen shares) vs) = total-member (λ (n : ℕ). n) (map (seen shares) vs) id v.parts (at_map (seen shares) vs id v at) in
       let its : length v.turn ≤ total (λ (t : Turn). length t.turn) (map (seen roots) vs) =
       total-member (λ (t : Turn). length t.turn) (map (seen roots) vs) id (seen roots v) (at_map (seen roots) vs id v at) in
-      (saw a (m a) v, kept_word g s m a (m a) _ refl (sees a (m a) m vs s l at), (refl, omega (arith, mine, l shares), omega (arith, its, (l roots).one)), (refl, refl))
+      (saw a (m a) v, kept_word g s m a (m a) _ refl (sees a (m a) m vs s l at), (refl, omega (arith, mine, l shares), omega (arith, its, (l roots).one)), (refl, refl, inl refl))

@@ -510,5 +510,5 @@ module _ (g : Setup) (id : ℕ) (v : View) where
               ap (λ (w : ℕ). class_of (m (super (superblock_of g.plan w)))) (sym e)
               ∙ (block_free g.plan (λ j. m (super j)) (bit_in m) (λ w. m (state w)) (map (seen pool) vs) id (seen pool v) (hand_at m vs s l at) (l pool) (λ j d. omega arith) x has is).1,
         ),
-        (refl, refl),
+        (refl, refl, inl refl),
       )

@@ -255,7 +255,7 @@ module _ (g : Setup) (id : ℕ) (v : View) where
         more-parts m vs s l at u ((m (refs u) + 1) % 2 ^ 64) near is (counted-some m vs s l at u near (omega (arith, has))) in_use room
             (omega (arith, refs-few g m vs s l u near is)),
         refl,
-        (refl, refl),
+        (refl, refl, inl refl),
       )
 
   -- less
@@ -265,7 +265,7 @@ module _ (g : Setup) (id : ℕ) (v : View) where
     saw (refs u) (m (refs u)) (lessened u (m (refs u)) v),
     less-parts m vs s l at u ((m (refs u) + (2 ^ 64 - 1)) % 2 ^ 64) near has in_use (λ some. omega (arith, some, small)),
     refl,
-    (refl, refl),
+    (refl, refl, inl refl),
   )
 
   -- give up, once the list of the record is closed
@@ -275,5 +275,5 @@ module _ (g : Setup) (id : ℕ) (v : View) where
     saw (refs u) (m (refs u)) (gave_up u (m (refs u)) v),
     give_up-parts m vs s l at u ((m (refs u) + (2 ^ 64 - 1)) % 2 ^ 64) near d has unit_is closed in_use (λ some. omega (arith, some, small)),
     refl,
-    (refl, refl),
+    (refl, refl, inl refl),
   )

@@ -346,7 +346,7 @@ module _ (g : Setup) (id : ℕ) (v : View) where
     saw (root (length asked)) (m (root (length asked))) (put_root says v),
     name-parts m vs s l at asked has_turn says few may in_use,
     (m (root (length asked)), refl),
-    (refl, refl),
+    (refl, refl, inl refl),
   )
 
   -- more of a root: a reference to its record
@@ -357,5 +357,5 @@ module _ (g : Setup) (id : ℕ) (v : View) where
         saw (refs u) (m (refs u)) (referred u v),
         more-parts g id v m vs s l at u ((m (refs u) + 1) % 2 ^ 64) t.0 t.1 t.2 in_use room (omega (arith, refs-few g m vs s l u t.0 t.1)),
         refl,
-        (refl, refl),
+        (refl, refl, inl refl),
       )

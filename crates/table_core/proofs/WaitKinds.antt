@@ -138,7 +138,7 @@ module _ (g : Setup) (id : ℕ) (v : View) where
     saw (head u) (m (head u)) (saw_head u (m (head u)) v),
     kept_word g s m (head u) (m (head u)) _ refl (see-parts m vs s l at u has),
     (refl, (head-is m vs s l at u has).0, (head-is m vs s l at u has).1),
-    (refl, refl),
+    (refl, refl, inl refl),
   )
 
   -- unchain: the first of a chain of the hand
@@ -148,7 +148,7 @@ module _ (g : Setup) (id : ℕ) (v : View) where
     saw (next u) (m (next u)) (unchained u (number_of (m (state u))) members v),
     kept_word g s m (next u) (m (next u)) _ refl (unchain-parts m vs s l at u members has in_use),
     (members, number_of (m (state u)), refl, is_rest),
-    (refl, refl),
+    (refl, refl, inl refl),
   )
     where
       waits_there : At (map (seen waits) vs) id (seen waits v)

@@ -133,7 +133,7 @@ module _ (g : Setup) where
   Lawful m vs = (s : Story) × AllSay s m vs
 
   -- A step that writes f of what it finds at one word may be made: whatever the table is then, with some new view of the pass all
-  -- parts say what they said, of the same story; the pass has seen what was found, and the view is what the step tells.
+  -- parts say what they said, of the same story; the pass has seen what was found, what it placed was written, and the view is what the step tells.
   abbrev pub Keeps : ℕ → View → Addr → (ℕ → ℕ) → (ℕ → View → Type 0) → Type 0
   Keeps id v a f told = (m : Mem) (vs : List View) (s : Story) → AllSay s m vs → slice_get vs id ≡ Some v → m a < 18446744073709551616
-      → (w : View) × AllSay s (put m a (f (m a))) (slice_set vs id w) × told (m a) w × Stepped a (m a) v w
+      → (w : View) × AllSay s (put m a (f (m a))) (slice_set vs id w) × told (m a) w × Stepped a (m a) (f (m a)) v w

@@ -6,7 +6,8 @@ use Rattle.frame_code.specs.Names.{named}
 use Rattle.table_core.specs.Addresses.{state}
 use Rattle.table_core.specs.Views.{saw}
 use Rattle.table_core.specs.declared.view.View.{View}
-use Rattle.schedule_rule.specs.PlacingViews.{placing, logged}
+use Rattle.table_core.specs.Steps.{placing}
+use Rattle.schedule_rule.specs.PlacingViews.{logged}
 use Rattle.step_table.specs.LastLooks.{KeepsNewest}
 use Rattle.step_table.specs.PlacingSteps.{placed_made}
 use Rattle.step_table.proofs.RecordStepping.{state-there}
