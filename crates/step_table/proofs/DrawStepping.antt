@@ -8,13 +8,14 @@ use Rattle.task_syntax.specs.Valid.{IsValid}
 use Rattle.task_meaning.specs.Worths.{Accepted, Respawn}
 use Rattle.table_core.specs.Addresses.{Addr, Mem, sum, put}
 use Rattle.table_core.specs.Asking.{Asker, OfRoot, OfTask, Drawn}
-use Rattle.table_core.specs.Holdings.{Look, Run}
+use Rattle.table_core.specs.Holdings.{Look, Run, Placing}
 use Rattle.table_core.specs.Story.{Story}
 use Rattle.table_core.specs.Views.{saw}
 use Rattle.table_core.specs.WaitViews.{is_run_at}
 use Rattle.table_core.specs.declared.setup.Setup.{Setup}
 use Rattle.table_core.specs.declared.view.View.{View}
 use Rattle.table_core.proofs.ListFacts.{set_here}
+use Rattle.table_core.specs.Steps.{LogsWritten, placing}
 use Rattle.schedule_rule.specs.DrawViews.{permitted, told_limit, drawn_for, drew_for_run, drew_for_root, drew_again, drew_none, changed, Drew, SawDrawn, MayAsk}
 use Rattle.schedule_rule.specs.LifeViews.{with_words, moved_on}
 use Rattle.schedule_rule.specs.Numbers.{in_hand}
@@ -39,15 +40,20 @@ set_twice [] k x y = refl
 set_twice (z ∷ l) zero x y = refl
 set_twice (z ∷ l) (suc k) x y = ap (λ (r : List _). z ∷ r) (set_twice l k x y)
 
+-- what was placed is written also where the view before is another with the same placings
+logs-from : (a : Addr) (n : ℕ) (v w new : View) → ◌≡◌ {A = List Placing} w.placings v.placings → LogsWritten a n w new → LogsWritten a n v new
+logs-from a n v w new same (inl e) = inl (e ∙ same)
+logs-from a n v w new same (inr (u, words, is, e)) = inr (u, words, is, e ∙ ap (λ (l : List Placing). placing u n words ∷ l) same)
+
 -- a step that keeps the rule from a view to which the pass may go without one keeps it from the view before
-pub keeps-from : (g : Setup) (id : ℕ) (v w : View) (a : Addr) (f : ℕ → ℕ) (told : ℕ → View → Type 0) → w.parts ≡ v.parts → ◌≡◌ {A = List (Addr × ℕ)} w.seen v.seen
+pub keeps-from : (g : Setup) (id : ℕ) (v w : View) (a : Addr) (f : ℕ → ℕ) (told : ℕ → View → Type 0) → w.parts ≡ v.parts → ◌≡◌ {A = List (Addr × ℕ)} w.seen v.seen → ◌≡◌ {A = List Placing} w.placings v.placings
     → ((m : Mem) (vs : List View) (s : Story) → AllSay g s m vs → At vs id v → AllSay g s m (slice_set vs id w)) → Keeps g id w a f told → Keeps g id v a f told
-keeps-from g id v w a f told parts same_seen goes keeps m vs s l at small =
+keeps-from g id v w a f told parts same_seen same_placings goes keeps m vs s l at small =
     let t = keeps m (slice_set vs id w) s (goes m vs s l at) (set_here vs id v w at) small in (
       t.0,
       subst (λ (views : List View). LawfulAfter g s (put m a (f (m a))) views) (set_twice vs id w t.0) t.1,
       t.2,
-      (t.3.0 ∙ parts, t.3.1 ∙ ap (λ (l : List (Addr × ℕ)). (a, m a) ∷ l) same_seen),
+      (t.3.0 ∙ parts, t.3.1 ∙ ap (λ (l : List (Addr × ℕ)). (a, m a) ∷ l) same_seen, logs-from a (f (m a)) v w t.0 same_placings t.3.2),
     )
 
 -- a run of which the frame moved on
@@ -85,7 +91,7 @@ sees-drawn-value g id v asking may in_use = by asking.move may.moves
         let found = run-there move.unit v.runs x.run x.at.there in
         let at : x.run.unit ≡ move.unit = found.1 in
         let w : View = moved_on move.unit move.words v in
-        keeps-from g id v w (sum 0) (λ n. n) (SawDrawn g.plan.limit asking.asker w) refl refl
+        keeps-from g id v w (sum 0) (λ n. n) (SawDrawn g.plan.limit asking.asker w) refl refl refl
         (λ m vs s l there. subst (λ (u : ℕ). AllSay g s m (slice_set vs id (moved_on u move.words v))) at
         (moved-says g id v m vs s l there x.run found.0 move.words x.frame (subst (λ (u : ℕ). StillCovers g v (moved_on u move.words v)) (sym at) x.covers) in_use))
         (sees-drawn-at g id w asking.asker in_use)

@@ -49,7 +49,7 @@ pub struct View {
     // it took.
     pub ghost drawn: { List Drawn },
     pub ghost taken: { List ℕ },
-    // The numbers that it placed, the newest first.
+    // The numbers that it placed, of each pass that was joined the newest first.
     pub ghost placings: { List Placing },
     // Numbers whose task or predecessor is not yet written, and stamps that are not.
     pub ghost no_task: { List ℕ },
