@@ -69,12 +69,12 @@ def done(out, status=0):
     return {"status": status, "out": out, "err": b""}
 
 
+TOO_LONG = {"status": 7, "out": b"", "err": b"ktask: p.kt is longer than 16777216 bytes\n"}
+
 TEXTS = {
     "file-of-the-greatest-size": (long_program(MOST_BYTES), done(b"root r 1\n")),
-    "file-one-byte-too-long": (
-        long_program(MOST_BYTES + 1),
-        {"status": 7, "out": b"", "err": b"ktask: p.kt is longer than 16777216 bytes\n"},
-    ),
+    "file-one-byte-too-long": (long_program(MOST_BYTES + 1), TOO_LONG),
+    "line-ends-one-byte-too-many": ("\n" * (MOST_BYTES + 1), TOO_LONG),
     "file-past-a-million-bytes": (long_program(1_000_001), done(b"root r 1\n")),
     "sixteen-roots": (many_roots(), done(b"".join(b"root r%d 1\n" % at for at in range(16)))),
     "sixty-four-kinds": (many_kinds(), done(b"root r 63\n")),

@@ -2,8 +2,6 @@
 #![tactic(auto)]
 
 mod bench;
-#[cfg(test)]
-mod check_tests;
 mod columns;
 mod fault_line;
 pub mod fetch_file;
@@ -17,13 +15,7 @@ mod run;
 mod run_plan;
 mod run_status;
 pub mod stop;
-#[cfg(test)]
-mod tests;
 mod tool;
-#[cfg(test)]
-mod tool_samples;
-#[cfg(test)]
-mod tool_tests;
 mod write_text;
 
 pub use outcome::Outcome;

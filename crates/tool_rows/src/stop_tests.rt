@@ -1,6 +1,6 @@
-use crate::fetch_file::fetch_file;
-use crate::refuse::refuse;
-use crate::stop::{InputFile, Stop};
+use ktask_cli::fetch_file::fetch_file;
+use ktask_cli::refuse::refuse;
+use ktask_cli::stop::{InputFile, Stop};
 use std::alloc::{AllocError, Global};
 use std::test::Fail;
 use task_check::Cause;

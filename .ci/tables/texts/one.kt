@@ -1,0 +1,6 @@
+ktask 1
+kind one
+state start
+  done 1
+end
+root r one
