@@ -8,16 +8,12 @@ ghost use Rattle.std.specs.Prelude.{◌<◌, length};
 ghost use Rattle.frame_code.specs.Frames.{IsFrame};
 
 use frame_code::{CheckedCode, Frame, Requests, advance, at_entry, has_sort, set_number};
-use std::alloc::{Alloc, Global};
+use sample_programs::program_of;
+use std::alloc::Alloc;
 use std::env::Env;
 use std::time::CpuClock;
 use std::{env, fs, io};
-use task_check::check;
-use task_reader::read_program;
 use task_syntax::{Checked, Columns, Sort};
-
-/// The longest text of a program, in bytes.
-const LONGEST: usize = 16_777_216;
 
 /// The words after the program's name.
 fn words<R: Env + Alloc>(rt: &R) -> io::Result<Vec<String<R::A>, R::A>> {
@@ -26,17 +22,6 @@ fn words<R: Env + Alloc>(rt: &R) -> io::Result<Vec<String<R::A>, R::A>> {
         words.push(word)?;
     }
     Ok(words)
-}
-
-/// The program of a text, where it has one that is valid.
-fn program_of(alloc: Global, text: &[u8]) -> Option<Checked> {
-    if text.len() > LONGEST {
-        return None;
-    }
-    match read_program(alloc, text) {
-        Ok(program) => check(alloc, program).ok(),
-        Err(_) => None,
-    }
 }
 
 /// Makes a frame that of the first kind at its entry.
@@ -125,7 +110,7 @@ fn main(rt: HostRuntime) -> io::Result<()> {
         return Ok(());
     };
     let text = fs::read(&rt, file.as_str())?;
-    match program_of(rt.alloc(), text.as_slice()) {
+    match program_of(rt.alloc(), text.as_slice())? {
         Some(checked) => measure(&rt, &checked, number, rounds),
         None => Ok(()),
     }

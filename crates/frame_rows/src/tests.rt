@@ -7,36 +7,16 @@ use frame_code::{
     class_of, enter_held, entry_frame, has_sort, is_aggregate, member, members_class,
     members_frame, naming_words, pass_on, passed_by, set_number, units_named, words_of,
 };
-use std::alloc::{AllocError, Global};
+use sample_programs::program_of;
 use std::test::Fail;
-use task_check::{CheckError, check};
-use task_reader::{ReadError, read_program};
-use task_syntax::{Checked, Columns, Sort};
+use task_syntax::{Columns, Sort};
 
 /// In the variables of the second kind the futures stand between and behind the numbers, and its
 /// second state holds the first of them alone.
-const PROGRAM: &str =
-    "ktask 1\nkind leaf n\nstate start\n  done n\nend\nkind top n\n  var @a x @b\n\
+const PROGRAM: &[u8] =
+    b"ktask 1\nkind leaf n\nstate start\n  done n\nend\nkind top n\n  var @a x @b\n\
     state start\n  add x n 1\n  spawn @a leaf x\n  spawn @b leaf n\n  again last behind @a\n\
     state last holds @a settled @a\n  get x @a\n  done x\nend\nroot r top 4\n";
-
-/// The program; none where the text makes no valid one.
-fn program(alloc: Global) -> Result<Option<Checked>, AllocError> {
-    let text = PROGRAM.as_bytes();
-    if text.len() > 10_000 {
-        return Ok(None);
-    }
-    let program = match read_program(alloc, text) {
-        Ok(program) => program,
-        Err(ReadError::Memory) => return Err(AllocError),
-        Err(ReadError::Fault { .. }) => return Ok(None),
-    };
-    match check(alloc, program) {
-        Ok(checked) => Ok(Some(checked)),
-        Err(CheckError::Memory) => Err(AllocError),
-        Err(CheckError::Fault { .. }) => Ok(None),
-    }
-}
 
 /// The frame of the second kind at its entry, with this number for its argument; none where there
 /// is no such kind.
@@ -160,7 +140,7 @@ fn entered_with(checked: &CheckedCode, kind: u16, passed: &[Passed]) -> Option<F
 
 #[test]
 fn an_entry_has_its_kind_and_its_number(rt: HostRuntime) -> Result<(), Fail> {
-    let checked = program(rt.alloc())?.ok_or("no program")?;
+    let checked = program_of(rt.alloc(), PROGRAM)?.ok_or("no program")?;
     let code = CheckedCode::new(rt.alloc(), &checked)?;
     let frame = top(&code, 4).ok_or("no kind")?;
     assert_eq!(rt; frame.as_slice(), [1, 4, 0, 0, 0].as_slice());
@@ -169,7 +149,7 @@ fn an_entry_has_its_kind_and_its_number(rt: HostRuntime) -> Result<(), Fail> {
 
 #[test]
 fn a_task_goes_past_its_spawns_and_keeps_what_is_held(rt: HostRuntime) -> Result<(), Fail> {
-    let checked = program(rt.alloc())?.ok_or("no program")?;
+    let checked = program_of(rt.alloc(), PROGRAM)?.ok_or("no program")?;
     let code = CheckedCode::new(rt.alloc(), &checked)?;
     let columns = Columns::none(rt.alloc());
     let mut frame = top(&code, 4).ok_or("no kind")?;
@@ -190,7 +170,7 @@ fn a_task_goes_past_its_spawns_and_keeps_what_is_held(rt: HostRuntime) -> Result
 
 #[test]
 fn an_aggregate_goes_past_its_members(rt: HostRuntime) -> Result<(), Fail> {
-    let checked = program(rt.alloc())?.ok_or("no program")?;
+    let checked = program_of(rt.alloc(), PROGRAM)?.ok_or("no program")?;
     let code = CheckedCode::new(rt.alloc(), &checked)?;
     let columns = Columns::none(rt.alloc());
     let mut frame = Frame::new();
@@ -207,7 +187,7 @@ fn an_aggregate_goes_past_its_members(rt: HostRuntime) -> Result<(), Fail> {
 
 #[test]
 fn blocks_are_told_by_their_words(rt: HostRuntime) -> Result<(), Fail> {
-    let checked = program(rt.alloc())?.ok_or("no program")?;
+    let checked = program_of(rt.alloc(), PROGRAM)?.ok_or("no program")?;
     let code = CheckedCode::new(rt.alloc(), &checked)?;
     if code.program().kinds.len() <= 1 {
         return Err(Fail::new("no kind"));
@@ -222,7 +202,7 @@ fn blocks_are_told_by_their_words(rt: HostRuntime) -> Result<(), Fail> {
 
 #[test]
 fn a_new_task_begins_with_what_is_passed(rt: HostRuntime) -> Result<(), Fail> {
-    let checked = program(rt.alloc())?.ok_or("no program")?;
+    let checked = program_of(rt.alloc(), PROGRAM)?.ok_or("no program")?;
     let code = CheckedCode::new(rt.alloc(), &checked)?;
     let columns = Columns::none(rt.alloc());
     let mut frame = top(&code, 4).ok_or("no kind")?;

@@ -8,20 +8,16 @@
 ghost use Rattle.std.specs.Prelude.{◌≡◌, IfSome, length};
 ghost use Rattle.task_syntax.specs.Form.{IsWellFormed};
 
-use kt_words::{Geometry, Plan};
+use kt_words::Plan;
 use plain_engine::{PlainEnd, PlainRun};
 use record_core::{Ended, RootEnd};
+use sample_programs::{plan_of, program_of};
 use std::alloc::{Alloc, Global};
 use std::env::Env;
 use std::rt::Clock;
 use std::time::{CpuClock, Instant};
 use std::{env, fs, io};
-use task_check::check;
-use task_reader::read_program;
-use task_syntax::{Checked, Columns, Memory, Program, Value};
-
-/// The longest text of a program, in bytes.
-const LONGEST: usize = 16_777_216;
+use task_syntax::{Checked, Columns, Memory, Value};
 
 /// The words after the program's name.
 fn words<R: Env + Alloc>(rt: &R) -> io::Result<Vec<String<R::A>, R::A>> {
@@ -32,25 +28,13 @@ fn words<R: Env + Alloc>(rt: &R) -> io::Result<Vec<String<R::A>, R::A>> {
     Ok(words)
 }
 
-/// The program of a text, where it has one that is valid.
-fn program_of(alloc: Global, text: &[u8]) -> Option<Checked> {
-    if text.len() > LONGEST {
-        return None;
-    }
-    match read_program(alloc, text) {
-        Ok(program) => check(alloc, program).ok(),
-        Err(_) => None,
-    }
-}
-
-/// The plan that three words say, for the roots of a program.
-fn plan_of(superblocks: &str, units: &str, limit: &str, program: &Program) -> Option<Plan>
-    ensures { IfSome result (λ plan. plan.roots ≡ length program.now.roots) }
+/// The plan of a program's run that three words say.
+fn plan_by(superblocks: &str, units: &str, limit: &str, checked: &Checked) -> Option<Plan>
+    ensures { IfSome result (λ plan. plan.roots ≡ length checked.now.roots) }
 {
     let superblocks = superblocks.parse::<u32>().ok()?;
-    let geometry = Geometry::new(superblocks, units.parse::<u32>().ok()?)?;
-    let roots = u8::try_from(program.roots.len()).ok()?;
-    Plan::new(geometry, limit.parse::<u64>().ok()?, roots)
+    let units = units.parse::<u32>().ok()?;
+    plan_of(checked, superblocks, units, limit.parse::<u64>().ok()?)
 }
 
 /// Runs a program by a plan.
@@ -101,14 +85,14 @@ fn main(rt: HostRuntime) -> io::Result<()> {
         return Ok(());
     };
     let text = fs::read(&rt, file.as_str())?;
-    let Some(checked) = program_of(rt.alloc(), text.as_slice()) else {
+    let Some(checked) = program_of(rt.alloc(), text.as_slice())? else {
         return Ok(());
     };
-    match plan_of(
+    match plan_by(
         superblocks.as_str(),
         units.as_str(),
         limit.as_str(),
-        checked.program(),
+        &checked,
     ) {
         Some(plan) => measure(&rt, &checked, plan),
         None => Ok(()),

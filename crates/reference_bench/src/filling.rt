@@ -3,13 +3,16 @@ ghost use Rattle.std.specs.Prelude.{IfOk, IfSome, IsTrue};
 ghost use Rattle.step_table.specs.Passes.{IsOf};
 ghost use Rattle.reference_bench.specs.Hands.{IsMaking, IsFilled};
 
-use crate::program::program;
 use kt_words::{Geometry, Plan};
+use sample_programs::program_of;
 use std::alloc::{AllocError, Global};
 use std::sync::Wait;
 use step_table::{Ending, Pass, Shared, Started};
 use table_records::{open_maker, ready_record};
 use task_syntax::{Columns, Trap, Value};
+
+// A kind without variables, and a root of it.
+const PROGRAM: &[u8] = b"ktask 1\nkind one\nstate start\ndone 1\nend\nroot p one\n";
 
 // More activations than there are records.
 const LIMIT: u64 = 1_000;
@@ -25,7 +28,7 @@ fn opened(
 ) -> Result<Option<(Shared, Pass, Started, Vec<u32>)>, AllocError>
     ensures making { IfOk result (λ made. IfSome made (λ t. IsMaking t.0 t.2 t.3.items t.1)) }
 {
-    let Some(checked) = program(alloc)? else {
+    let Some(checked) = program_of(alloc, PROGRAM)? else {
         return Ok(None);
     };
     if checked.program().roots.len() != 1 {

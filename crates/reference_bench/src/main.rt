@@ -7,7 +7,6 @@
 mod arcs;
 mod filling;
 mod picks;
-mod program;
 mod records;
 
 use kt_words::Geometry;

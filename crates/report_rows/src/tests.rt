@@ -4,32 +4,19 @@ use crate::samples::{CHAIN, SAMPLES, Sample};
 use kt_words::{Geometry, SuperWord};
 use record_core::{ActivationRow, Cause, TaskRow};
 use run_report::{Failed, MemorySink, write_check, write_report};
+use sample_programs::program_of;
 use std::alloc::{AllocError, Global};
 use std::test::Fail;
-use task_check::{CheckError, check};
-use task_reader::{ReadError, read_program};
 use task_syntax::Checked;
 
 const KIND: &str = "ktask 1\nkind k\nstate s\ndone 0\nend\n";
 
 /// A valid program with these lines after a kind, and none where they make no such program.
-fn program_of(alloc: Global, lines: &str) -> Result<Option<Checked>, AllocError> {
+fn program_with(alloc: Global, lines: &str) -> Result<Option<Checked>, AllocError> {
     let mut text = String::new(alloc);
     text.push_str(KIND)?;
     text.push_str(lines)?;
-    if text.len() > 10_000 {
-        return Ok(None);
-    }
-    let program = match read_program(alloc, text.as_bytes()) {
-        Ok(program) => program,
-        Err(ReadError::Memory) => return Err(AllocError),
-        Err(ReadError::Fault { .. }) => return Ok(None),
-    };
-    match check(alloc, program) {
-        Ok(checked) => Ok(Some(checked)),
-        Err(CheckError::Memory) => Err(AllocError),
-        Err(CheckError::Fault { .. }) => Ok(None),
-    }
+    program_of(alloc, text.as_bytes())
 }
 
 /// The rows of a sample.
@@ -151,7 +138,7 @@ fn written_with(
     rows: &Rows,
     call: u64,
 ) -> Result<Option<Written>, AllocError> {
-    let Some(checked) = program_of(alloc, sample.names)? else {
+    let Some(checked) = program_with(alloc, sample.names)? else {
         return Ok(None);
     };
     let Some(end) = end_of(sample, rows) else {
@@ -241,7 +228,7 @@ fn kinds_are_told_with_class_and_words(rt: HostRuntime) -> Result<(), Fail> {
         "kind fib class 0 words 7\n",
         "kinds 2 roots 1\n",
     ];
-    let checked = program_of(rt.alloc(), fib)?.ok_or("no program")?;
+    let checked = program_with(rt.alloc(), fib)?.ok_or("no program")?;
     for call in 0..=3u64 {
         let count = if call == 0 { 3 } else { call - 1 };
         let front = front_of(rt.alloc(), &lines, count)?;

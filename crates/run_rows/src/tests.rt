@@ -4,41 +4,14 @@ ghost use Rattle.run_report.specs.CanReport.{CanReport};
 use crate::reported::report;
 use crate::samples::{SAMPLES, Sample};
 use column_input::{ColumnError, read_columns};
-use kt_words::{Geometry, Plan};
+use kt_words::Plan;
 use plain_engine::{PlainEnd, PlainRun};
 use record_core::{CutTag, Ended, RootEnd};
+use sample_programs::{plan_of, program_of};
 use std::alloc::{AllocError, Global};
 use std::test::Fail;
-use task_check::{CheckError, check};
-use task_reader::{ReadError, read_program};
 use task_syntax::{Checked, Columns};
 use tool_io::MemorySink;
-
-/// The program of a text, and none where it makes no valid one.
-fn program_of(alloc: Global, text: &str) -> Result<Option<Checked>, AllocError> {
-    if text.len() > 10_000 {
-        return Ok(None);
-    }
-    let program = match read_program(alloc, text.as_bytes()) {
-        Ok(program) => program,
-        Err(ReadError::Memory) => return Err(AllocError),
-        Err(ReadError::Fault { .. }) => return Ok(None),
-    };
-    match check(alloc, program) {
-        Ok(checked) => Ok(Some(checked)),
-        Err(CheckError::Memory) => Err(AllocError),
-        Err(CheckError::Fault { .. }) => Ok(None),
-    }
-}
-
-/// The plan of a program, where it is one.
-fn plan_of(checked: &Checked, superblocks: u32, units: u32, limit: u64) -> Option<Plan>
-    ensures { IfSome result (λ plan. plan.roots ≡ length checked.now.roots) }
-{
-    let geometry = Geometry::new(superblocks, units)?;
-    let roots = u8::try_from(checked.program().roots.len()).ok()?;
-    Plan::new(geometry, limit, roots)
-}
 
 /// The end of a run within a plan, on columns.
 fn run(
@@ -60,7 +33,7 @@ fn run(
 fn run_of(alloc: Global, sample: &Sample) -> Result<Option<(Checked, PlainEnd)>, AllocError>
     ensures { IfOk result (λ ran. IfSome ran (λ both. CanReport both.0 both.1)) }
 {
-    let Some(checked) = program_of(alloc, sample.program)? else {
+    let Some(checked) = program_of(alloc, sample.program.as_bytes())? else {
         return Ok(None);
     };
     let Some(plan) = plan_of(&checked, sample.superblocks, sample.units, sample.limit) else {
@@ -97,7 +70,7 @@ fn roots_of(alloc: Global, behind: &str) -> Result<Option<PlainEnd>, AllocError>
     let mut text = String::new(alloc);
     text.push_str(DOWN)?;
     text.push_str(behind)?;
-    let Some(checked) = program_of(alloc, text.as_str())? else {
+    let Some(checked) = program_of(alloc, text.as_bytes())? else {
         return Ok(None);
     };
     let Some(plan) = plan_of(&checked, 256, 512, 1_000_000) else {
@@ -152,7 +125,7 @@ fn columns_of(alloc: Global, text: &str) -> Result<Option<Columns>, AllocError> 
 #[test]
 fn a_column_is_summed(rt: HostRuntime) -> Result<(), Fail> {
     let alloc = rt.alloc();
-    let checked = program_of(alloc, SUM)?.ok_or("no program")?;
+    let checked = program_of(alloc, SUM.as_bytes())?.ok_or("no program")?;
     let columns = columns_of(alloc, PRICES)?.ok_or("no columns")?;
     let plan = plan_of(&checked, 256, 512, 1_000_000).ok_or("no plan")?;
     let end = run(alloc, &checked, &columns, plan)?;
