@@ -2,7 +2,8 @@
 
 A case has a name, the words of the command and its status, and, where they are not empty, the files that lie where it runs and
 what it prints: `out` on standard output, `err` on standard error. A text is a list of lines; a character of a line is a byte.
-A file is the name of one of .ci/tables/texts, a text, or a text after one of those: {"after": NAME, "lines": TEXT}.
+A file is the name of one of .ci/tables/texts, a text, a text after one of those, {"after": NAME, "lines": TEXT}, or a string whose
+last line has no end, {"bytes": STRING}.
 """
 import json
 import pathlib
@@ -21,6 +22,8 @@ def bytes_of(lines):
 def content(file, texts):
     if isinstance(file, str):
         return (texts / file).read_bytes()
+    if isinstance(file, dict) and "bytes" in file:
+        return file["bytes"].encode("latin-1")
     if isinstance(file, dict):
         return content(file["after"], texts) + bytes_of(file["lines"])
     return bytes_of(file)

@@ -17,8 +17,6 @@ mod program;
 mod reading;
 mod root;
 mod state;
-#[cfg(test)]
-mod tests;
 mod unknown;
 mod uses;
 

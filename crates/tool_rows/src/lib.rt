@@ -1,4 +1,5 @@
-//! Tests of the tool over shelves and sinks in memory: what it fetches, and what becomes of it where a file or a sink fails.
+//! Tests of the tool: what words choose; and over shelves and sinks in memory what is fetched, and
+//! what comes of a file or a sink that fails.
 #![tactic(auto)]
 
 #[cfg(test)]
@@ -7,3 +8,7 @@ mod samples;
 mod stop_tests;
 #[cfg(test)]
 mod tool_tests;
+#[cfg(test)]
+mod words_samples;
+#[cfg(test)]
+mod words_tests;

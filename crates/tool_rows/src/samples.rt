@@ -27,7 +27,7 @@ const SUM: &str = "ktask 1\nkind sum lo hi\n  var m x @a @b @g\nstate start\n  s
 
 const PRICES: &str = "id,price\n1,10\n2,20\n3,30\n4,40\n5,50\n";
 
-/// A task that spawns wide tasks behind the gate, which opens only when there is nothing else to do.
+/// A task that spawns wide tasks behind the gate, which opens only when nothing else is left to do.
 const FILL: &str = "ktask 1\nkind gate\nstate start\n  done 1\nend\nkind wide\n\
     var v0 v1 v2 v3 v4 v5 v6 v7 v8 v9 v10 v11 v12 v13 v14 v15\n\
     var v16 v17 v18 v19 v20 v21 v22 v23 v24 v25 v26 v27 v28 v29 v30 v31\n\
@@ -70,7 +70,8 @@ const CHAIN: &str = "bench chain 3\nroot r 6\nactivations 10\ntasks 4\nnulls 0\n
 const TRACED: &str = "root r 1\nactivations 1\ntasks 1\nnulls 0\nheld 1 0 0 0\n\
     activation 1 task 1 after - start 1\ntask 1 finish 2 cause -\n";
 
-/// Words, the text of p, which calls of `out` fail, the status, what is told on the two sinks, and how many fetches are made.
+/// Words, the text of p, which calls of `out` fail, the status, what is told on the two sinks, and
+/// how many fetches are made.
 pub(crate) type WriteRow = (
     &'static [&'static str],
     &'static str,
@@ -138,8 +139,8 @@ pub(crate) static WRITES: [WriteRow; 11] = [
     ),
 ];
 
-/// Words, the texts of p and c, which fetches fail, the status, what is told on the two sinks, how many fetches are made, and
-/// how many of them fail.
+/// Words, the texts of p and c, which fetches fail, the status, what is told on the two sinks, how
+/// many fetches are made, and how many of them fail.
 pub(crate) type FetchRow = (
     &'static [&'static str],
     &'static str,

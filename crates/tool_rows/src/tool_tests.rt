@@ -6,7 +6,8 @@ use std::io::Write;
 use std::test::Fail;
 use tool_io::{MemoryShelf, MemorySink, OutSink};
 
-/// What a command is run over: the texts of the files p and c, and which calls of the shelf and of the two sinks fail.
+/// What a command is run over: the texts of the files p and c, and which calls of the shelf and of
+/// the two sinks fail.
 #[derive(Clone, Copy)]
 struct Given<'a> {
     program: &'a str,

@@ -8,10 +8,6 @@ mod choice;
 mod commands;
 mod numbers;
 mod parse;
-#[cfg(test)]
-mod samples;
-#[cfg(test)]
-mod tests;
 mod words;
 mod words_error;
 
