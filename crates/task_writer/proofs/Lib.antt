@@ -4,6 +4,7 @@ pub mod CanonicalText
 pub mod Found
 pub mod Itemized
 pub mod KnownSteps
+pub mod LinesAhead
 pub mod Named
 pub mod PlainLines
 pub mod Putting

@@ -1,102 +1,106 @@
--- An instruction that is read is written with the names that it was read with.
-use Rattle.task_writer.proofs.Vocabulary.{◌≡◌, ℕ, true, Option, Some, None, unwrap_or, List, [], ◌∷◌, map, refl, sym, ◌∙◌, ap, same_bytes, Sort, Variable, Kind, is_among, Term, Passed, Step, has_variable, is_variable, Positions, Use, UsesFuture, term_use, passed_use, behind_uses, step_uses, Known, is_given, place_of, place_where, number_place, future_place, operand_of, argument_of, instr_of, AllGiven, given-parts, known_for, place-where, same-name, variable-place, option_map, Set, Math, If, Goto, Label, Cell, Rows, Spawn, All, Copy, Drop, Get, Again, Done, Names, name_at, variable_names, state_names, term_of, passed_of, step_of}
+-- An instruction whose positions are in range is written with the names that it was read with.
+use Rattle.task_writer.proofs.Vocabulary.{◌≡◌, ℕ, zero, suc, ◌+◌, ◌<◌, add-one, Bool, true, false, cond, Option, Some, None, List, [], ◌∷◌, map, length, slice_get, refl, sym, ◌∙◌, ap, subst, length-map, IfSome, same_bytes, both, Each, IsNumberAt, IsFutureAt, IsFormedOperand, IsFormedArgument, IsFormedInstr, IsLabelAhead, Sort, Variable, State, Kind, Program, Term, Passed, Step, is_variable, same_sort, Positions, place_of, place_where, number_place, future_place, operand_of, argument_of, instr_of, same-name, some-same, option_map, Set, Math, If, Goto, Label, Cell, Rows, Spawn, All, Copy, Drop, Get, Again, Done, name_at, kind_names, variable_names, state_names, label_names, names_in, term_of, passed_of, step_of}
 use Rattle.task_writer.proofs.Named.{name-found}
+use Rattle.task_writer.proofs.ReadPlaces.{named-at, stands-at}
 
 -- ---- places
 
-pub place-same : (names : List (List ℕ)) (name : List ℕ) → is_among names name ≡ true → name_at names (place_of names name) ≡ name
-place-same names name h =
-    let r = place-where (same_bytes name) names h in ap (λ o. unwrap_or o []) r.1 ∙ sym (same-name name r.0 r.2)
+pub get-later : {A : Type 0} (x : A) (xs : List A) (at : ℕ) → slice_get (x ∷ xs) (at + 1) ≡ slice_get xs at
+get-later x xs at = rw add-one
 
-variable-same : (sort : Sort) (name : List ℕ) (variables : List Variable) → has_variable variables sort name ≡ true
+-- what stands at the place of a test passes it
+pub place-passes : {A : Type 0} (test : A → Bool) (xs : List A) (x : A) → slice_get xs (place_where test xs) ≡ Some x → test x ≡ true
+place-passes test [] x e = cc
+place-passes test (a ∷ more) x e = by (test a) refl (place-passes test more x) e where
+  by : (b : Bool) → test a ≡ b → (slice_get more (place_where test more) ≡ Some x → test x ≡ true)
+      → slice_get (a ∷ more) (cond b 0 (place_where test more + 1)) ≡ Some x → test x ≡ true
+  by true t further e = subst (λ y. test y ≡ true) (some-same a x e) t
+  by false t further e = further (sym (get-later a more (place_where test more)) ∙ e)
+
+-- a name whose place is in range stands there
+pub place-same : (names : List (List ℕ)) (name : List ℕ) → place_of names name < length names → name_at names (place_of names name) ≡ name
+place-same names name l =
+    let at = place_of names name in sym (same-name name (name_at names at) (place-passes (same_bytes name) names (name_at names at) (named-at names at l)))
+
+-- so does the name of a variable, where one of the sort stands at its place
+pub variable-same : (sort : Sort) (name : List ℕ) (variables : List Variable)
+    → option_map (λ (v : Variable). v.sort) (slice_get variables (place_where (is_variable sort name) variables)) ≡ Some sort
     → name_at (variable_names variables) (place_where (is_variable sort name) variables) ≡ name
-variable-same sort name variables h =
-    let v = variable-place sort name variables h in
-    name-found (λ (v : Variable). v.name) variables (place_where (is_variable sort name) variables) v.variable v.stands ∙ sym v.name_is
+variable-same sort name variables e =
+    let at = place_where (is_variable sort name) variables in
+    let s = stands-at variables sort at e in
+    let b : (same_sort sort s.variable.sort ≡ true) × (same_bytes name s.variable.name ≡ true) =
+    both _ _ (place-passes (is_variable sort name) variables s.variable s.stands) in
+    name-found (λ (v : Variable). v.name) variables at s.variable s.stands ∙ sym (same-name name s.variable.name b.1)
 
--- ---- parts
+-- ---- lists
 
--- the kind and the positions have the same names
-pub record HasNames (positions : Positions) (kinds : List (List ℕ)) (kind : Kind) : Type 0 where
-  pub kinds_are : positions.kinds ≡ kinds
-  pub variables_are : positions.variables ≡ kind.variables
-  pub states_are : positions.states ≡ state_names kind.states
+-- each member of a list is written as it was read, where what was read is well formed
+pub each-same : {A B : Type 0} (read : A → B) (write : B → A) (P : B → Type 0) → ((a : A) → P (read a) → write (read a) ≡ a)
+    → (xs : List A) → Each (map read xs) P → map write (map read xs) ≡ xs
+each-same read write P one [] h = refl
+each-same read write P one (a ∷ xs) h =
+    ap (λ z. z ∷ map write (map read xs)) (one a (h zero (read a) refl)) ∙ ap (λ zs. a ∷ zs) (each-same read write P one xs (λ i. h (suc i)))
 
-number-same : (positions : Positions) (name : List ℕ) → has_variable positions.variables Sort.Number name ≡ true
-    → name_at (variable_names positions.variables) (number_place positions.variables name) ≡ name
-number-same positions name e = variable-same Sort.Number name positions.variables e
-
-future-same : (positions : Positions) (name : List ℕ) → has_variable positions.variables Sort.Future name ≡ true
-    → name_at (variable_names positions.variables) (future_place positions.variables name) ≡ name
-future-same positions name e = variable-same Sort.Future name positions.variables e
-
-term-same : (positions : Positions) (labels roots : List (List ℕ)) (t : Term) → is_given (known_for positions labels roots) (term_use t) ≡ true
-    → term_of (variable_names positions.variables) (operand_of positions t) ≡ t
-term-same positions labels roots (Term.Literal n) e = refl
-term-same positions labels roots (Term.Variable name) e = ap (λ n. Term.Variable n) (number-same positions name e)
-
-passed-same : (positions : Positions) (labels roots : List (List ℕ)) (a : Passed) → is_given (known_for positions labels roots) (passed_use a) ≡ true
-    → passed_of (variable_names positions.variables) (argument_of positions a) ≡ a
-passed-same positions labels roots (Passed.Number t) e = ap (λ x. Passed.Number x) (term-same positions labels roots t e)
-passed-same positions labels roots (Passed.Future name) e = ap (λ n. Passed.Future n) (future-same positions name e)
-
--- each member of a list that is given is written as it was read
-pub each-same : {A B : Type 0} (k : Known) (use_of : A → Use) (read : A → B) (write : B → A) → ((a : A) → is_given k (use_of a) ≡ true → write (read a) ≡ a)
-    → (xs : List A) → AllGiven k (map use_of xs) → map write (map read xs) ≡ xs
-each-same k use_of read write one [] g = refl
-each-same k use_of read write one (a ∷ xs) g =
-    ap (λ z. z ∷ map write (map read xs)) (one a g.0) ∙ ap (λ zs. a ∷ zs) (each-same k use_of read write one xs g.1)
-
--- a predecessor that is given is written as it was read
-pub behind-same : (k : Known) (use_of : List ℕ → Use) (read : List ℕ → ℕ) (write : ℕ → List ℕ) → ((name : List ℕ) → is_given k (use_of name) ≡ true → write (read name) ≡ name)
-    → (behind : Option (List ℕ)) → AllGiven k (behind_uses use_of behind) → option_map write (option_map read behind) ≡ behind
-behind-same k use_of read write one None g = refl
-behind-same k use_of read write one (Some name) g = ap Some (one name g.1.0)
-
--- futures that are given are written as they were read
-pub futures-same : (positions : Positions) (labels roots : List (List ℕ)) (names : List (List ℕ)) → AllGiven (known_for positions labels roots) (map UsesFuture names)
-    → map (name_at (variable_names positions.variables)) (map (future_place positions.variables) names) ≡ names
-futures-same positions labels roots names g =
-    each-same (known_for positions labels roots) UsesFuture (future_place positions.variables) (name_at (variable_names positions.variables)) (future-same positions) names g
+-- so is a predecessor
+pub behind-same : {A B : Type 0} (read : A → B) (write : B → A) (P : B → Type 0) → ((a : A) → P (read a) → write (read a) ≡ a)
+    → (behind : Option A) → IfSome (option_map read behind) P → option_map write (option_map read behind) ≡ behind
+behind-same read write P one None h = refl
+behind-same read write P one (Some a) h = ap Some (one a h)
 
 -- ---- instructions
 
--- the names at the positions, where labels have these places
-abbrev pub names_for : Positions → List (List ℕ) → Names
-names_for positions labels = record { kinds = positions.kinds; variables = variable_names positions.variables; states = positions.states; labels = labels }
+-- the names of the kinds, and those of a kind
+abbrev pub positions_of : Program → Kind → Positions
+positions_of p kind = record { kinds = kind_names p.kinds; variables = kind.variables; states = state_names kind.states }
 
--- an instruction whose names are given is written as it was read
-pub step-same : (positions : Positions) (labels roots places : List (List ℕ)) (label_place : List ℕ → ℕ) → ((name : List ℕ) → is_among labels name ≡ true → name_at places (label_place name) ≡ name)
-    → (step : Step) → AllGiven (known_for positions labels roots) (step_uses step) → step_of (names_for positions places) (instr_of positions label_place step) ≡ step
-unfolding instr_of step_of
-step-same positions labels roots places label_place at (Set to value) g = rw (number-same positions to g.1.0, term-same positions labels roots value g.1.1.0) refl
-step-same positions labels roots places label_place at (Math operation to left right) g =
-    rw (number-same positions to g.1.0, term-same positions labels roots left g.1.1.0, term-same positions labels roots right g.1.1.1.0) refl
-step-same positions labels roots places label_place at (If relation left right target) g =
-    rw (term-same positions labels roots left g.1.0, term-same positions labels roots right g.1.1.1.0, at target g.1.1.1.1.1.0) refl
-step-same positions labels roots places label_place at (Goto target) g = ap (λ n. Goto n) (at target g.1.0)
-step-same positions labels roots places label_place at (Label name) g = refl
-step-same positions labels roots places label_place at (Cell to column row) g =
-    rw (number-same positions to g.1.0, term-same positions labels roots row g.1.1.1.0) refl
-step-same positions labels roots places label_place at (Rows to column) g = rw (number-same positions to g.1.0) refl
-step-same positions labels roots places label_place at (Spawn to callee arguments behind priority retry) g =
-    let k = known_for positions labels roots in
-    let parts = given-parts k (map passed_use arguments) (behind_uses UsesFuture behind) g.1.1.1 in
-    rw (
-      future-same positions to g.1.0,
-      place-same positions.kinds callee g.1.1.0,
-      each-same k passed_use (argument_of positions) (passed_of (variable_names positions.variables)) (passed-same positions labels roots) arguments parts.0,
-      behind-same k UsesFuture (future_place positions.variables) (name_at (variable_names positions.variables)) (future-same positions) behind parts.1,
-    ) refl
-step-same positions labels roots places label_place at (All to members priority retry) g =
-    rw (future-same positions to g.1.0, futures-same positions labels roots members g.1.1) refl
-step-same positions labels roots places label_place at (Copy to source) g = rw (future-same positions to g.1.0, future-same positions source g.1.1.0) refl
-step-same positions labels roots places label_place at (Drop future) g = ap (λ n. Drop n) (future-same positions future g.1.0)
-step-same positions labels roots places label_place at (Get to future) g = rw (number-same positions to g.1.0, future-same positions future g.1.1.0) refl
-step-same positions labels roots places label_place at (Again target behind priority) g =
-    let k = known_for positions labels roots in
-    rw (
-      place-same positions.states target g.1.0,
-      behind-same k UsesFuture (future_place positions.variables) (name_at (variable_names positions.variables)) (future-same positions) behind g.1.1,
-    ) refl
-step-same positions labels roots places label_place at (Done value) g = ap (λ v. Done v) (term-same positions labels roots value g.1.0)
+-- futures that are in range are written as they were read
+pub futures-same : (kind : Kind) (names : List (List ℕ)) → Each (map (future_place kind.variables) names) (IsFutureAt kind)
+    → map (name_at (variable_names kind.variables)) (map (future_place kind.variables) names) ≡ names
+futures-same kind = each-same (future_place kind.variables) (name_at (variable_names kind.variables)) (IsFutureAt kind)
+    (λ name f. variable-same Sort.Future name kind.variables f)
+
+-- an instruction that is well formed is written as it was read
+module _ (p : Program) (kind : Kind) (state : State) (at : ℕ) (label_place : List ℕ → ℕ)
+    (label : (name : List ℕ) → IsLabelAhead state at (label_place name) → name_at (label_names state.code) (label_place name) ≡ name) where
+  number : (name : List ℕ) → IsNumberAt kind (number_place kind.variables name) → name_at (variable_names kind.variables) (number_place kind.variables name) ≡ name
+  number name f = variable-same Sort.Number name kind.variables f
+
+  future : (name : List ℕ) → IsFutureAt kind (future_place kind.variables name) → name_at (variable_names kind.variables) (future_place kind.variables name) ≡ name
+  future name f = variable-same Sort.Future name kind.variables f
+
+  term : (t : Term) → IsFormedOperand kind (operand_of (positions_of p kind) t) → term_of (variable_names kind.variables) (operand_of (positions_of p kind) t) ≡ t
+  term (Term.Literal n) f = refl
+  term (Term.Variable name) f = ap (λ n. Term.Variable n) (number name f)
+
+  passed : (a : Passed) → IsFormedArgument kind (argument_of (positions_of p kind) a) → passed_of (variable_names kind.variables) (argument_of (positions_of p kind) a) ≡ a
+  passed (Passed.Number t) f = ap (λ x. Passed.Number x) (term t f)
+  passed (Passed.Future name) f = ap (λ n. Passed.Future n) (future name f)
+
+  before : (behind : Option (List ℕ)) → IfSome (option_map (future_place kind.variables) behind) (IsFutureAt kind)
+      → option_map (name_at (variable_names kind.variables)) (option_map (future_place kind.variables) behind) ≡ behind
+  before = behind-same (future_place kind.variables) (name_at (variable_names kind.variables)) (IsFutureAt kind) future
+
+  pub step-same : (step : Step) → IsFormedInstr p kind state at (instr_of (positions_of p kind) label_place step)
+      → step_of (names_in (kind_names p.kinds) kind state) (instr_of (positions_of p kind) label_place step) ≡ step
+  unfolding instr_of step_of
+  step-same (Set to value) f = rw (number to f.0, term value f.1) refl
+  step-same (Math operation to left right) f = rw (number to f.0, term left f.1, term right f.2) refl
+  step-same (If relation left right target) f = rw (term left f.0, term right f.1, label target f.2) refl
+  step-same (Goto target) f = ap (λ n. Goto n) (label target f)
+  step-same (Label name) f = refl
+  step-same (Cell to column row) f = rw (number to f.0, term row f.2) refl
+  step-same (Rows to column) f = rw (number to f.0) refl
+  step-same (Spawn to callee arguments behind priority retry) f =
+      rw (
+        future to f.0,
+        place-same (kind_names p.kinds) callee (rw length-map f.1),
+        each-same (argument_of (positions_of p kind)) (passed_of (variable_names kind.variables)) (IsFormedArgument kind) passed arguments f.3,
+        before behind f.4,
+      ) refl
+  step-same (All to members priority retry) f = rw (future to f.0, futures-same kind members f.3) refl
+  step-same (Copy to source) f = rw (future to f.0, future source f.1) refl
+  step-same (Drop released) f = ap (λ n. Drop n) (future released f)
+  step-same (Get to settled) f = rw (number to f.0, future settled f.1) refl
+  step-same (Again target behind priority) f = rw (place-same (state_names kind.states) target (rw length-map f.0), before behind f.1) refl
+  step-same (Done value) f = ap (λ v. Done v) (term value f)

@@ -30,10 +30,10 @@ pub use Rattle.task_reader.proofs.FormedStates.{no-step}
 pub use Rattle.task_reader.proofs.FormedSteps.{known_for}
 pub use Rattle.task_reader.proofs.Known.{given-known, given-both, AllGiven, given-parts, both-known, all-given, futures-given, same-futures, futures-listed}
 pub use Rattle.task_reader.proofs.Places.{same-name, place-where, variable-place}
-pub use Rattle.task_reader.proofs.Read.{program_in-spelled, spelled-accepts}
-pub use Rattle.task_reader.proofs.Stands.{Stand, item_at, rows-stand, names-of-kinds, names-of-roots, names-of-states}
+pub use Rattle.task_reader.proofs.Read.{program_in-spelled, program_in-formed, spelled-accepts}
+pub use Rattle.task_reader.proofs.Stands.{Stand, item_at, kind-behind, no-outside, rows-stand, names-of-kinds, names-of-roots, names-of-states}
 unfoldable pub use Rattle.task_reader.proofs.Vocabulary.{names_known, uses_known, root_of, roots_from, kinds_from, states_from, instr_of, code_from, program_of, kind_of, program_in}
-pub use Rattle.task_reader.proofs.Vocabulary.{◌≡◌, ◌≢◌, ℕ, ◌<◌, ◌≤◌, ◌^◌, Bool, true, ◌&&◌, nat_lt, Option, List, [], ◌∷◌, ◌++◌, map, length, refl, sym, append-nil, ◌∙◌, ap, inl, inr, arith, suc, ◌+◌, slice_get, Some, unwrap_or, subst, append_assoc, zero, take, get_or, false, drop, add-one, None, not, nat_eq, Ok, cond, ◌||◌, Result, Err, one-add, eqb-true, length-map, length-append, list_all, flat_map, prefix_len, list_any, codes, IfSome, ◌==◌, digits_value, SpellsFuture, SpellsNumber, SpellsTerm, SpellsPassed, SpellsRootTerm, SpellsVariable, EachSpells, SpellsFutures, SpellsBehind, Spells, RowsSpellFrom, RowsSpell, operation_word, IsNew, MayBegin, IsInState, MayFollow, MayName, MayStand, first_scope, after, is_variable, has_variable, same_sort, place_behind, Part, GotoWord, AName, ANewName, ATarget, ATerm, ARelation, AFuture, KindVariables, MoreVariables, Arguments, RootArguments, Members, HeldFutures, SettledFutures, Predecessor, APriority, LastPriority, ARetry, Values, entry, Known, known_at, is_given, line_known, place_of, root_argument_of, variables_from, number_place, future_place, operand_of, argument_of, is_label, steps_to, place_where, state_of, Spelled, UsesRoot, root_term_use, Use, UsesFuture, term_use, passed_use, behind_uses, step_uses, futures_uses, root_uses, state_uses, both, differ-map, IsFormedRoot, IsFormedRootArgument, IsFormedState, IsWellFormed, IsFormedOperand, IsFormedArgument, IsFormedInstr, IsLabel, IsLabelAhead, labels_of, IsFormedKind, Ends, Leaves, is_digit, IsName, same_bytes, is_between, AllDiffer, Each, IsNumberAt, IsFutureAt, instr_at, same-bytes, first_of, is_among, Word, Row, lines_of, without_mark, rows_from, rows_of, in_front, code_of, with_row, option_map, words_of}
+pub use Rattle.task_reader.proofs.Vocabulary.{◌≡◌, ◌≢◌, ℕ, ◌<◌, ◌≤◌, ◌^◌, Bool, true, ◌&&◌, nat_lt, Option, List, [], ◌∷◌, ◌++◌, map, length, refl, sym, append-nil, ◌∙◌, ap, inl, inr, arith, suc, ◌+◌, slice_get, Some, unwrap_or, subst, append_assoc, zero, take, get_or, false, drop, add-one, None, not, nat_eq, Ok, cond, ◌||◌, Result, Err, one-add, eqb-true, length-map, length-append, list_all, flat_map, prefix_len, list_any, codes, IfSome, ◌==◌, digits_value, SpellsFuture, SpellsNumber, SpellsTerm, SpellsPassed, SpellsRootTerm, SpellsVariable, EachSpells, SpellsFutures, SpellsBehind, Spells, RowsSpellFrom, RowsSpell, operation_word, IsNew, MayBegin, IsInState, IsInside, MayFollow, MayName, MayStand, first_scope, after, is_variable, has_variable, same_sort, place_behind, Part, GotoWord, AName, ANewName, ATarget, ATerm, ARelation, AFuture, KindVariables, MoreVariables, Arguments, RootArguments, Members, HeldFutures, SettledFutures, Predecessor, APriority, LastPriority, ARetry, Values, entry, Known, known_at, is_given, line_known, place_of, root_argument_of, variables_from, number_place, future_place, operand_of, argument_of, is_label, steps_to, place_where, state_of, Spelled, UsesRoot, root_term_use, Use, UsesFuture, term_use, passed_use, behind_uses, step_uses, futures_uses, root_uses, state_uses, both, differ-map, IsFormedRoot, IsFormedRootArgument, IsFormedState, IsWellFormed, IsFormedOperand, IsFormedArgument, IsFormedInstr, IsLabel, IsLabelAhead, labels_of, IsFormedKind, Ends, Leaves, is_digit, IsName, same_bytes, is_between, AllDiffer, Each, IsNumberAt, IsFutureAt, instr_at, same-bytes, first_of, is_among, Word, Row, lines_of, without_mark, rows_from, rows_of, in_front, code_of, with_row, option_map, words_of}
 pub use Rattle.task_reader.specs.Fits.{root_names as names_of_roots}
 pub use Rattle.task_reader.specs.Names.{kind_names as names_of_kinds, state_names as names_of_states, label_names as names_of_labels, known_among}
 pub use Rattle.task_reader.specs.Uses.{UsesNumber, line_uses}
