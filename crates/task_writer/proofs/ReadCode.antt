@@ -1,5 +1,5 @@
 -- The instructions of a state are read back.
-use Rattle.task_writer.proofs.Vocabulary.{Sort, ◌≡◌, ℕ, zero, suc, ◌+◌, ◌-◌, ◌<◌, add-one, Bool, true, false, Option, Some, None, List, [], ◌∷◌, ◌++◌, map, length, slice_get, refl, sym, ◌∙◌, ap, subst, arith, length-map, IfSome, same_bytes, EachAt, Each, AllDiffer, IsNumberAt, IsFutureAt, IsFormedOperand, IsFormedArgument, IsFormedInstr, IsLabel, IsLabelAhead, labels_of, State, Kind, Program, Operand, Argument, Instr, Line, differ-tail, differ-head, What, Positions, place_of, number_place, future_place, operand_of, argument_of, instr_of, is_label, steps_to, code_from, line-at, same-name, same-bytes, numbered_code, option_map, Names, name_at, kind_names, variable_names, state_names, label_names, label_of, names_in, term_of, passed_of, step_of, code_lines, some-same}
+use Rattle.task_writer.proofs.Vocabulary.{Sort, ◌≡◌, ℕ, zero, suc, ◌+◌, ◌-◌, add-one, Bool, true, false, Option, Some, None, List, [], ◌∷◌, ◌++◌, map, slice_get, refl, sym, ◌∙◌, ap, subst, arith, length-map, IfSome, same_bytes, EachAt, Each, AllDiffer, IsFormedKind, IsNumberAt, IsFutureAt, IsFormedOperand, IsFormedArgument, IsFormedInstr, IsLabel, IsLabelAhead, labels_of, State, Kind, Program, Operand, Argument, Instr, Line, differ-tail, differ-head, What, Positions, number_place, future_place, operand_of, argument_of, instr_of, is_label, steps_to, code_from, line-at, same-name, same-bytes, numbered_code, option_map, Names, name_at, kind_names, variable_names, state_names, label_names, label_of, names_in, term_of, passed_of, step_of, code_lines, some-same}
 use Rattle.task_syntax.specs.declared.instr.Instr.TheVariants.{Set, Math, If, Goto, Label, Cell, Rows, Spawn, All, Copy, Drop, Get, Again, Done}
 use Rattle.task_writer.proofs.Itemized.{items_at}
 use Rattle.task_writer.proofs.Named.{name-found}
@@ -7,43 +7,12 @@ use Rattle.task_writer.proofs.ReadPlaces.{position-place, variable-place, stands
 
 -- ---- the parts of an instruction
 
--- the positions are those of the names in a state of a kind
-pub record AreOf (positions : Positions) (p : Program) (kind : Kind) : Type 0 where
-  pub kinds : positions.kinds ≡ kind_names p.kinds
-  pub variables : positions.variables ≡ kind.variables
-  pub states : positions.states ≡ state_names kind.states
-  pub kinds_differ : AllDiffer (kind_names p.kinds)
-  pub variables_differ : AllDiffer kind.variables
-  pub states_differ : AllDiffer (state_names kind.states)
+-- the names of the kinds of a program, and those of the variables and the states of a kind
+abbrev pub positions_of : Program → Kind → Positions
+positions_of p kind = record { kinds = kind_names p.kinds; variables = kind.variables; states = state_names kind.states }
 
 abbrev pub at_variable : Kind → ℕ → List ℕ
 at_variable kind at = name_at (variable_names kind.variables) at
-
-pub number-back : (positions : Positions) (p : Program) (kind : Kind) → AreOf positions p kind → (at : ℕ) → IsNumberAt kind at
-    → number_place positions.variables (at_variable kind at) ≡ at
-number-back positions p kind are at n = rw are.variables (variable-place kind.variables are.variables_differ Sort.Number at (stands-at kind.variables Sort.Number at n))
-
-pub future-back : (positions : Positions) (p : Program) (kind : Kind) → AreOf positions p kind → (at : ℕ) → IsFutureAt kind at
-    → future_place positions.variables (at_variable kind at) ≡ at
-future-back positions p kind are at n = rw are.variables (variable-place kind.variables are.variables_differ Sort.Future at (stands-at kind.variables Sort.Future at n))
-
-kind-back : (positions : Positions) (p : Program) (kind : Kind) → AreOf positions p kind → (at : ℕ) → at < length p.kinds
-    → place_of positions.kinds (name_at (kind_names p.kinds) at) ≡ at
-kind-back positions p kind are at l = rw are.kinds (position-place (kind_names p.kinds) are.kinds_differ at (rw length-map l))
-
-state-back : (positions : Positions) (p : Program) (kind : Kind) → AreOf positions p kind → (at : ℕ) → at < length kind.states
-    → place_of positions.states (name_at (state_names kind.states) at) ≡ at
-state-back positions p kind are at l = rw are.states (position-place (state_names kind.states) are.states_differ at (rw length-map l))
-
-operand-back : (positions : Positions) (p : Program) (kind : Kind) → AreOf positions p kind → (a : Operand) → IsFormedOperand kind a
-    → operand_of positions (term_of (variable_names kind.variables) a) ≡ a
-operand-back positions p kind are (Operand.Literal n) formed = refl
-operand-back positions p kind are (Operand.Variable at) formed = ap Operand.Variable (number-back positions p kind are at formed)
-
-argument-back : (positions : Positions) (p : Program) (kind : Kind) → AreOf positions p kind → (a : Argument) → IsFormedArgument kind a
-    → argument_of positions (passed_of (variable_names kind.variables) a) ≡ a
-argument-back positions p kind are (Argument.Number a) formed = ap Argument.Number (operand-back positions p kind are a formed)
-argument-back positions p kind are (Argument.Future at) formed = ap Argument.Future (future-back positions p kind are at formed)
 
 pub map-back : {A B : Type 0} (read : B → A) (write : A → B) (P : A → Type 0) → ((a : A) → P a → read (write a) ≡ a)
     → (more : List A) → Each more P → map read (map write more) ≡ more
@@ -55,48 +24,53 @@ pub option-back : {A B : Type 0} (read : B → A) (write : A → B) (P : A → T
 option-back read write P back None some = refl
 option-back read write P back (Some a) some = ap Some (back a some)
 
-pub futures-back : (positions : Positions) (p : Program) (kind : Kind) → AreOf positions p kind → (more : List ℕ) → Each more (IsFutureAt kind)
-    → map (future_place positions.variables) (map (at_variable kind) more) ≡ more
-futures-back positions p kind are = map-back (future_place positions.variables) (at_variable kind) (IsFutureAt kind) (future-back positions p kind are)
+-- what is written of the positions of an instruction is read as these positions, where kinds, variables and states differ
+module _ (p : Program) (kind : Kind) (differ : AllDiffer (kind_names p.kinds)) (formed : IsFormedKind p kind) where
+  number-back : (at : ℕ) → IsNumberAt kind at → number_place kind.variables (at_variable kind at) ≡ at
+  number-back at n = variable-place kind.variables formed.variables_differ Sort.Number at (stands-at kind.variables Sort.Number at n)
 
-behind-back : (positions : Positions) (p : Program) (kind : Kind) → AreOf positions p kind → (behind : Option ℕ) → IfSome behind (IsFutureAt kind)
-    → option_map (future_place positions.variables) (option_map (at_variable kind) behind) ≡ behind
-behind-back positions p kind are = option-back (future_place positions.variables) (at_variable kind) (IsFutureAt kind) (future-back positions p kind are)
+  future-back : (at : ℕ) → IsFutureAt kind at → future_place kind.variables (at_variable kind at) ≡ at
+  future-back at n = variable-place kind.variables formed.variables_differ Sort.Future at (stands-at kind.variables Sort.Future at n)
 
--- ---- the instruction
+  operand-back : (a : Operand) → IsFormedOperand kind a → operand_of (positions_of p kind) (term_of (variable_names kind.variables) a) ≡ a
+  operand-back (Operand.Literal n) f = refl
+  operand-back (Operand.Variable at) f = ap Operand.Variable (number-back at f)
 
-instr-back : (positions : Positions) (p : Program) (kind : Kind) → AreOf positions p kind → (state : State) (at : ℕ) (label_place : List ℕ → ℕ)
-    → ((target : ℕ) → IsLabelAhead state at target → label_place (name_at (label_names state.code) target) ≡ target)
-    → (instr : Instr) → IsFormedInstr p kind state at instr → instr_of positions label_place (step_of (names_in (kind_names p.kinds) kind state) instr) ≡ instr
-unfolding instr_of step_of
-instr-back positions p kind are state at label_place labels (Set to value) formed =
-    rw (number-back positions p kind are to formed.0, operand-back positions p kind are value formed.1) refl
-instr-back positions p kind are state at label_place labels (Math op to left right) formed =
-    rw (number-back positions p kind are to formed.0, operand-back positions p kind are left formed.1, operand-back positions p kind are right formed.2) refl
-instr-back positions p kind are state at label_place labels (If relation left right target) formed =
-    rw (operand-back positions p kind are left formed.0, operand-back positions p kind are right formed.1, labels target formed.2) refl
-instr-back positions p kind are state at label_place labels (Goto target) formed = ap Goto (labels target formed)
-instr-back positions p kind are state at label_place labels (Label name) formed = refl
-instr-back positions p kind are state at label_place labels (Cell to column row) formed =
-    rw (number-back positions p kind are to formed.0, operand-back positions p kind are row formed.2) refl
-instr-back positions p kind are state at label_place labels (Rows to column) formed = rw (number-back positions p kind are to formed.0) refl
-instr-back positions p kind are state at label_place labels (Spawn to callee arguments behind priority retry) formed =
-    rw (
-      future-back positions p kind are to formed.0,
-      kind-back positions p kind are callee formed.1,
-      map-back (argument_of positions) (passed_of (variable_names kind.variables)) (IsFormedArgument kind) (argument-back positions p kind are) arguments formed.3,
-      behind-back positions p kind are behind formed.4,
-    ) refl
-instr-back positions p kind are state at label_place labels (All to members priority retry) formed =
-    rw (future-back positions p kind are to formed.0, futures-back positions p kind are members formed.3) refl
-instr-back positions p kind are state at label_place labels (Copy to source) formed =
-    rw (future-back positions p kind are to formed.0, future-back positions p kind are source formed.1) refl
-instr-back positions p kind are state at label_place labels (Drop future) formed = ap Drop (future-back positions p kind are future formed)
-instr-back positions p kind are state at label_place labels (Get to future) formed =
-    rw (number-back positions p kind are to formed.0, future-back positions p kind are future formed.1) refl
-instr-back positions p kind are state at label_place labels (Again target behind priority) formed =
-    rw (state-back positions p kind are target formed.0, behind-back positions p kind are behind formed.1) refl
-instr-back positions p kind are state at label_place labels (Done value) formed = ap Done (operand-back positions p kind are value formed)
+  argument-back : (a : Argument) → IsFormedArgument kind a → argument_of (positions_of p kind) (passed_of (variable_names kind.variables) a) ≡ a
+  argument-back (Argument.Number a) f = ap Argument.Number (operand-back a f)
+  argument-back (Argument.Future at) f = ap Argument.Future (future-back at f)
+
+  pub futures-back : (more : List ℕ) → Each more (IsFutureAt kind) → map (future_place kind.variables) (map (at_variable kind) more) ≡ more
+  futures-back = map-back (future_place kind.variables) (at_variable kind) (IsFutureAt kind) future-back
+
+  behind-back : (behind : Option ℕ) → IfSome behind (IsFutureAt kind) → option_map (future_place kind.variables) (option_map (at_variable kind) behind) ≡ behind
+  behind-back = option-back (future_place kind.variables) (at_variable kind) (IsFutureAt kind) future-back
+
+  instr-back : (state : State) (at : ℕ) (label_place : List ℕ → ℕ)
+      → ((target : ℕ) → IsLabelAhead state at target → label_place (name_at (label_names state.code) target) ≡ target) → (instr : Instr)
+      → IsFormedInstr p kind state at instr → instr_of (positions_of p kind) label_place (step_of (names_in (kind_names p.kinds) kind state) instr) ≡ instr
+  unfolding instr_of step_of
+  instr-back state at label_place labels (Set to value) f = rw (number-back to f.0, operand-back value f.1) refl
+  instr-back state at label_place labels (Math op to left right) f = rw (number-back to f.0, operand-back left f.1, operand-back right f.2) refl
+  instr-back state at label_place labels (If relation left right target) f = rw (operand-back left f.0, operand-back right f.1, labels target f.2) refl
+  instr-back state at label_place labels (Goto target) f = ap Goto (labels target f)
+  instr-back state at label_place labels (Label name) f = refl
+  instr-back state at label_place labels (Cell to column row) f = rw (number-back to f.0, operand-back row f.2) refl
+  instr-back state at label_place labels (Rows to column) f = rw (number-back to f.0) refl
+  instr-back state at label_place labels (Spawn to callee arguments behind priority retry) f =
+      rw (
+        future-back to f.0,
+        position-place (kind_names p.kinds) differ callee (rw length-map f.1),
+        map-back (argument_of (positions_of p kind)) (passed_of (variable_names kind.variables)) (IsFormedArgument kind) argument-back arguments f.3,
+        behind-back behind f.4,
+      ) refl
+  instr-back state at label_place labels (All to members priority retry) f = rw (future-back to f.0, futures-back members f.3) refl
+  instr-back state at label_place labels (Copy to source) f = rw (future-back to f.0, future-back source f.1) refl
+  instr-back state at label_place labels (Drop future) f = ap Drop (future-back future f)
+  instr-back state at label_place labels (Get to future) f = rw (number-back to f.0, future-back future f.1) refl
+  instr-back state at label_place labels (Again target behind priority) f =
+      rw (position-place (state_names kind.states) formed.state_names_differ target (rw length-map f.0), behind-back behind f.1) refl
+  instr-back state at label_place labels (Done value) f = ap Done (operand-back value f)
 
 -- ---- labels
 
@@ -215,16 +189,16 @@ code-ends positions at n (What.State name holds settled ∷ rest) ends = refl
 code-ends positions at n (What.End ∷ rest) ends = refl
 code-ends positions at n _ ends = absurd ends
 
-pub code-back : (positions : Positions) (p : Program) (kind : Kind) → AreOf positions p kind → (state : State)
+pub code-back : (p : Program) (kind : Kind) → AllDiffer (kind_names p.kinds) → IsFormedKind p kind → (state : State)
     → EachAt state.code (λ at line. IsFormedInstr p kind state at line.instr)
     → (code : List Line) (at n : ℕ) (rest : List What) → EndsCode rest → AllDiffer (labels_of code) → IsFrom state.code at code
-    → code_from positions at (items_at n (code_lines (names_in (kind_names p.kinds) kind state) code ++ rest)) ≡ numbered_code n code
+    → code_from (positions_of p kind) at (items_at n (code_lines (names_in (kind_names p.kinds) kind state) code ++ rest)) ≡ numbered_code n code
 unfolding code_from numbered_code
-code-back positions p kind are state formed [] at n rest ends differ from = code-ends positions at n rest ends
-code-back positions p kind are state formed (l ∷ code) at n rest ends differ from =
+code-back p kind unlike k state formed [] at n rest ends differ from = code-ends (positions_of p kind) at n rest ends
+code-back p kind unlike k state formed (l ∷ code) at n rest ends differ from =
     let later = from-next state.code at l code from in
     let apart = labels-further l code differ in
     rw (
-      instr-back positions p kind are state at _ (label-ahead p kind state at code apart later (n + 1) rest) l.instr (formed at l (from-here state.code at l code from)),
-      code-back positions p kind are state formed code (at + 1) (n + 1) rest ends apart later,
+      instr-back p kind unlike k state at _ (label-ahead p kind state at code apart later (n + 1) rest) l.instr (formed at l (from-here state.code at l code from)),
+      code-back p kind unlike k state formed code (at + 1) (n + 1) rest ends apart later,
     ) refl

@@ -1,8 +1,8 @@
 -- The kinds of a program are read back.
-use Rattle.task_writer.proofs.Vocabulary.{◌≡◌, ℕ, zero, suc, ◌+◌, List, [], ◌∷◌, ◌++◌, take, drop, length, refl, ◌∙◌, ap, append_assoc, arith, take-append-drop, length-take-le, flat_map, Each, AllDiffer, IsFormedKind, Kind, Program, What, Positions, states_from, kind_of, kinds_from, numbered_kind, numbered_kinds, names_of_kinds, names_of_states, kind_names, state_names, state_lines, var_lines, kind_lines}
+use Rattle.task_writer.proofs.Vocabulary.{◌≡◌, ℕ, zero, suc, ◌+◌, List, [], ◌∷◌, ◌++◌, take, drop, length, refl, ◌∙◌, ap, append_assoc, arith, take-append-drop, length-take-le, flat_map, Each, AllDiffer, IsFormedKind, Kind, Program, What, states_from, kind_of, kinds_from, numbered_kind, numbered_kinds, names_of_kinds, names_of_states, kind_names, state_lines, var_lines, kind_lines}
 use Rattle.task_writer.proofs.Itemized.{items_at}
 use Rattle.task_writer.proofs.Skipped.{SkipsInside, inner_lines, skipped, skips-var, skips-inner}
-use Rattle.task_writer.proofs.ReadCode.{AreOf}
+use Rattle.task_writer.proofs.ReadCode.{positions_of}
 use Rattle.task_writer.proofs.ReadStates.{states_lines, states-end-code, states-back, states-named, variables-back}
 
 -- the lines of a kind behind its first, and the rest
@@ -12,17 +12,6 @@ inner-behind kinds kind rest =
     let var = var_lines (drop kind.arguments kind.variables) in
     let states = flat_map (state_lines kinds kind) kind.states in
     append_assoc var (states ++ What.End ∷ []) rest ∙ ap (λ ws. var ++ ws) (append_assoc states (What.End ∷ []) rest)
-
-pub are-positions : (p : Program) (kind : Kind) → AllDiffer (kind_names p.kinds) → IsFormedKind p kind → (positions : Positions)
-    → positions.kinds ≡ kind_names p.kinds → positions.variables ≡ kind.variables → positions.states ≡ state_names kind.states → AreOf positions p kind
-are-positions p kind differ formed positions k v s = record {
-  kinds = k;
-  variables = v;
-  states = s;
-  kinds_differ = differ;
-  variables_differ = formed.variables_differ;
-  states_differ = formed.state_names_differ;
-}
 
 pub kind-back : (p : Program) (kind : Kind) → AllDiffer (kind_names p.kinds) → IsFormedKind p kind → (n : ℕ) (rest : List What)
     → kind_of (kind_names p.kinds) n kind.name (take kind.arguments kind.variables) (items_at (n + 1) (inner_lines (kind_names p.kinds) kind ++ rest))
@@ -35,9 +24,8 @@ kind-back p kind differ formed n rest =
     let var = variables-back other (n + 1) behind (states-end-code kinds kind kind.states rest) in
     let named = skipped names_of_states (var_lines other) behind (n + 1) (skips-var names_of_states (λ vs n items. refl) other)
     ∙ states-named kinds kind kind.states (n + 1 + length (var_lines other)) rest in
-    let positions : Positions = record { kinds = kinds; variables = kind.variables; states = state_names kind.states } in
-    let states = skipped (states_from positions) (var_lines other) behind (n + 1) (skips-var (states_from positions) (λ vs n items. refl) other)
-    ∙ states-back positions p kind (are-positions p kind differ formed positions refl refl refl) kind.states (n + 1 + length (var_lines other)) rest formed.states in
+    let states = skipped (states_from (positions_of p kind)) (var_lines other) behind (n + 1) (skips-var (states_from (positions_of p kind)) (λ vs n items. refl) other)
+    ∙ states-back p kind differ formed kind.states (n + 1 + length (var_lines other)) rest formed.states in
     rw (
       inner-behind kinds kind rest,
       var,

@@ -1,8 +1,8 @@
 -- The variables and the states of a kind are read back.
-use Rattle.task_writer.proofs.Vocabulary.{◌≡◌, ℕ, zero, suc, ◌+◌, List, [], ◌∷◌, ◌++◌, map, length, refl, append_assoc, append-nil, arith, flat_map, Each, IsFormedState, Variable, State, Kind, Program, What, Positions, names_of_states, states_from, variables_from, numbered_states, kind_names, names_in, code_lines, state_lines, var_lines}
+use Rattle.task_writer.proofs.Vocabulary.{◌≡◌, ℕ, zero, suc, ◌+◌, List, [], ◌∷◌, ◌++◌, map, length, refl, append_assoc, append-nil, arith, flat_map, Each, AllDiffer, IsFormedKind, IsFormedState, Variable, State, Kind, Program, What, names_of_states, states_from, variables_from, numbered_states, kind_names, names_in, code_lines, state_lines, var_lines}
 use Rattle.task_writer.proofs.Itemized.{items_at}
 use Rattle.task_writer.proofs.Skipped.{skipped, skips-code}
-use Rattle.task_writer.proofs.ReadCode.{AreOf, EndsCode, code-back, futures-back, from-start}
+use Rattle.task_writer.proofs.ReadCode.{positions_of, EndsCode, code-back, futures-back, from-start}
 
 -- the lines of states, behind which their kind ends
 abbrev pub states_lines : List (List ℕ) → Kind → List State → List What → List What
@@ -13,11 +13,11 @@ unfolding state_lines
 states-end-code kinds kind [] rest = tt
 states-end-code kinds kind (s ∷ states) rest = tt
 
-pub states-back : (positions : Positions) (p : Program) (kind : Kind) → AreOf positions p kind → (states : List State) (n : ℕ) (rest : List What) → Each states (IsFormedState p kind)
-    → states_from positions (items_at n (states_lines (kind_names p.kinds) kind states rest)) ≡ numbered_states (λ state. length (state_lines (kind_names p.kinds) kind state)) n states
+pub states-back : (p : Program) (kind : Kind) → AllDiffer (kind_names p.kinds) → IsFormedKind p kind → (states : List State) (n : ℕ) (rest : List What) → Each states (IsFormedState p kind)
+    → states_from (positions_of p kind) (items_at n (states_lines (kind_names p.kinds) kind states rest)) ≡ numbered_states (λ state. length (state_lines (kind_names p.kinds) kind state)) n states
 unfolding states_from state_lines numbered_states
-states-back positions p kind are [] n rest formed = refl
-states-back positions p kind are (s ∷ states) n rest formed =
+states-back p kind differ k [] n rest formed = refl
+states-back p kind differ k (s ∷ states) n rest formed =
     let kinds = kind_names p.kinds in
     let here = formed zero s refl in
     let code = code_lines (names_in kinds kind s) s.code in
@@ -26,12 +26,12 @@ states-back positions p kind are (s ∷ states) n rest formed =
     let parted = append_assoc code (flat_map (state_lines kinds kind) states) (What.End ∷ rest) in
     rw (
       parted,
-      futures-back positions p kind are s.holds here.holds,
-      futures-back positions p kind are s.settled here.settled,
-      code-back positions p kind are s here.instrs s.code 0 (n + 1) later (states-end-code kinds kind states rest) here.labels_differ (from-start s.code),
-      skipped (states_from positions) code later (n + 1) (skips-code (states_from positions) (λ step n items. refl) kinds kind s s.code),
+      futures-back p kind differ k s.holds here.holds,
+      futures-back p kind differ k s.settled here.settled,
+      code-back p kind differ k s here.instrs s.code 0 (n + 1) later (states-end-code kinds kind states rest) here.labels_differ (from-start s.code),
+      skipped (states_from (positions_of p kind)) code later (n + 1) (skips-code (states_from (positions_of p kind)) (λ step n items. refl) kinds kind s s.code),
       e,
-      states-back positions p kind are states (n + suc (length code)) rest (λ i. formed (suc i)),
+      states-back p kind differ k states (n + suc (length code)) rest (λ i. formed (suc i)),
     ) refl
 
 pub states-named : (kinds : List (List ℕ)) (kind : Kind) (states : List State) (n : ℕ) (rest : List What)

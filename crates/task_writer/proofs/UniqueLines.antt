@@ -2,9 +2,9 @@
 use Rattle.task_writer.proofs.Vocabulary.{◌≡◌, ℕ, zero, suc, ◌+◌, ◌<◌, Bool, true, false, cond, Some, List, [], ◌∷◌, ◌++◌, map, length, slice_get, refl, sym, ◌∙◌, ap, subst, arith, append_assoc, length-append, length-map, flat_map, take-append_seam, drop-append_seam, same_bytes, EachAt, Each, IsFormedInstr, IsFormedState, IsFormedKind, IsFormedRoot, IsFormedRootArgument, IsLabelAhead, IsWellFormed, State, Kind, Program, Line, RootTerm, What, Item, first_scope, Positions, names_of_kinds, names_of_states, names_of_roots, place_of, instr_of, steps_to, code_from, state_of, states_from, variables_from, kind_of, kinds_from, root_argument_of, root_of, roots_from, program_of, line-at, same-name, some-same, Stand, item_at, names-of-kinds, names-of-roots, names-of-states, Label, label_names, name_at, kind_names, state_names, root_names, label_of, names_in, code_lines, state_lines, kind_lines, var_lines, root_term_of, root_line, lines_of_program}
 use Rattle.task_writer.proofs.Itemized.{by-items}
 use Rattle.task_writer.proofs.Named.{name-found}
-use Rattle.task_writer.proofs.ReadCode.{IsFrom, from-start, from-next, from-here}
+use Rattle.task_writer.proofs.ReadCode.{positions_of, IsFrom, from-start, from-next, from-here}
 use Rattle.task_writer.proofs.ReadRoots.{earlier-name}
-use Rattle.task_writer.proofs.UniqueSteps.{get-later, place-passes, place-same, each-same, behind-same, futures-same, positions_of, step-same}
+use Rattle.task_writer.proofs.UniqueSteps.{get-later, place-passes, place-same, each-same, behind-same, futures-same, step-same}
 use Rattle.task_writer.proofs.LinesAhead.{whats, all_words, code_ahead, states_ahead, kinds_ahead, roots_ahead, IsOrdered, lines-ahead}
 
 -- ---- instructions

@@ -1,7 +1,8 @@
 -- An instruction whose positions are in range is written with the names that it was read with.
-use Rattle.task_writer.proofs.Vocabulary.{◌≡◌, ℕ, zero, suc, ◌+◌, ◌<◌, add-one, Bool, true, false, cond, Option, Some, None, List, [], ◌∷◌, map, length, slice_get, refl, sym, ◌∙◌, ap, subst, length-map, IfSome, same_bytes, both, Each, IsNumberAt, IsFutureAt, IsFormedOperand, IsFormedArgument, IsFormedInstr, IsLabelAhead, Sort, Variable, State, Kind, Program, Term, Passed, Step, is_variable, same_sort, Positions, place_of, place_where, number_place, future_place, operand_of, argument_of, instr_of, same-name, some-same, option_map, Set, Math, If, Goto, Label, Cell, Rows, Spawn, All, Copy, Drop, Get, Again, Done, name_at, kind_names, variable_names, state_names, label_names, names_in, term_of, passed_of, step_of}
+use Rattle.task_writer.proofs.Vocabulary.{◌≡◌, ℕ, zero, suc, ◌+◌, ◌<◌, add-one, Bool, true, false, cond, Option, Some, None, List, [], ◌∷◌, map, length, slice_get, refl, sym, ◌∙◌, ap, subst, length-map, IfSome, same_bytes, both, Each, IsNumberAt, IsFutureAt, IsFormedOperand, IsFormedArgument, IsFormedInstr, IsLabelAhead, Sort, Variable, State, Kind, Program, Term, Passed, Step, is_variable, same_sort, place_of, place_where, number_place, future_place, operand_of, argument_of, instr_of, same-name, some-same, option_map, Set, Math, If, Goto, Label, Cell, Rows, Spawn, All, Copy, Drop, Get, Again, Done, name_at, kind_names, variable_names, state_names, label_names, names_in, term_of, passed_of, step_of}
 use Rattle.task_writer.proofs.Named.{name-found}
 use Rattle.task_writer.proofs.ReadPlaces.{named-at, stands-at}
+use Rattle.task_writer.proofs.ReadCode.{positions_of}
 
 -- ---- places
 
@@ -49,10 +50,6 @@ behind-same read write P one None h = refl
 behind-same read write P one (Some a) h = ap Some (one a h)
 
 -- ---- instructions
-
--- the names of the kinds, and those of a kind
-abbrev pub positions_of : Program → Kind → Positions
-positions_of p kind = record { kinds = kind_names p.kinds; variables = kind.variables; states = state_names kind.states }
 
 -- futures that are in range are written as they were read
 pub futures-same : (kind : Kind) (names : List (List ℕ)) → Each (map (future_place kind.variables) names) (IsFutureAt kind)
