@@ -1,10 +1,10 @@
 -- The names that an instruction is written with are given, and it may be written.
-use Rattle.task_writer.proofs.Vocabulary.{Sort, ◌≡◌, ℕ, zero, suc, ◌<◌, true, Option, Some, None, List, [], ◌∷◌, map, length, refl, IfSome, length-map, Each, IsNumberAt, IsFutureAt, IsFormedOperand, IsFormedArgument, IsFormedInstr, IsLabelAhead, State, Kind, Program, Operand, Argument, Instr, is_among, Use, UsesNumber, UsesFuture, term_use, passed_use, behind_uses, step_uses, Known, is_given, AllGiven, given-both, option_map, name_at, kind_names, variable_names, state_names, label_names, names_in, term_of, passed_of, step_of, IsName, What}
+use Rattle.task_writer.proofs.Vocabulary.{Sort, ◌≡◌, ℕ, zero, suc, ◌<◌, true, Option, Some, None, List, [], ◌∷◌, map, length, refl, IfSome, length-map, Each, IsNumberAt, IsFutureAt, IsFormedOperand, IsFormedArgument, IsFormedInstr, IsFormedState, IsFormedKind, IsLabelAhead, State, Kind, Program, Operand, Argument, Instr, is_among, Use, UsesNumber, UsesFuture, term_use, passed_use, behind_uses, step_uses, Known, is_given, AllGiven, given-both, option_map, name_at, kind_names, variable_names, state_names, label_names, names_in, term_of, passed_of, step_of, IsName, What}
 use Rattle.task_syntax.specs.declared.instr.Instr.TheVariants.{Set, Math, If, Goto, Label, Cell, Rows, Spawn, All, Copy, Drop, Get, Again, Done}
 use Rattle.task_writer.proofs.ReadPlaces.{position-among, variable-known, stands-at}
 use Rattle.task_writer.proofs.ReadCode.{at_variable}
 use Rattle.task_writer.proofs.Writable.{IsWritableTerm, IsWritablePassed, IsWritable}
-use Rattle.task_writer.proofs.WritableSteps.{AreNamed, position-named, variable-named, all-writable, map-begun}
+use Rattle.task_writer.proofs.WritableSteps.{label-named, position-named, variable-named, all-writable, map-begun}
 
 -- ---- lists
 
@@ -44,16 +44,17 @@ futures-in k kind variables more each =
 -- ---- the instruction
 
 -- what is written of an instruction whose positions are in range is given, and may be written
-module _ (k : Known) (p : Program) (kind : Kind) (knows : Knows k p kind) (state : State) (named : AreNamed p kind state) (at : ℕ)
+module _ (k : Known) (p : Program) (kind : Kind) (knows : Knows k p kind) (named : Each p.kinds (λ (k : Kind). IsName k.name))
+    (own : IsFormedKind p kind) (state : State) (formed : IsFormedState p kind state) (at : ℕ)
     (labels : (target : ℕ) → IsLabelAhead state at target → is_among k.labels (name_at (label_names state.code) target) ≡ true) where
   number : (x : ℕ) → IsNumberAt kind x → (is_given k (UsesNumber (at_variable kind x)) ≡ true) × IsName (at_variable kind x)
   number x n = (
     rw knows.variables (variable-known kind.variables Sort.Number x (stands-at kind.variables Sort.Number x n)),
-    variable-named kind named.variables Sort.Number x n,
+    variable-named kind own.variable_names Sort.Number x n,
   )
 
   future : (x : ℕ) → IsFutureAt kind x → (is_given k (UsesFuture (at_variable kind x)) ≡ true) × IsName (at_variable kind x)
-  future x n = (future-in k kind knows.variables x n, variable-named kind named.variables Sort.Future x n)
+  future x n = (future-in k kind knows.variables x n, variable-named kind own.variable_names Sort.Future x n)
 
   term : (a : Operand) → IsFormedOperand kind a → (is_given k (term_use (term_of (variable_names kind.variables) a)) ≡ true) × IsWritableTerm (term_of (variable_names kind.variables) a)
   term (Operand.Literal n) f = (refl, f)
@@ -69,7 +70,7 @@ module _ (k : Known) (p : Program) (kind : Kind) (knows : Knows k p kind) (state
   before (Some x) f = let a = future x f in ((refl, (a.0, tt)), a.1)
 
   label : (target : ℕ) → IsLabelAhead state at target → (is_among k.labels (name_at (label_names state.code) target) ≡ true) × IsName (name_at (label_names state.code) target)
-  label target ahead = (labels target ahead, named.labels at target ahead)
+  label target ahead = (labels target ahead, label-named p kind state formed.instrs at target ahead)
 
   pub step-fine : (instr : Instr) → IsFormedInstr p kind state at instr
       → AllGiven k (step_uses (step_of (names_in (kind_names p.kinds) kind state) instr)) × IsWritable (What.Step (step_of (names_in (kind_names p.kinds) kind state) instr))
@@ -92,7 +93,7 @@ module _ (k : Known) (p : Program) (kind : Kind) (knows : Knows k p kind) (state
       let given = each-in k passed_use (passed_of vs) (IsFormedArgument kind) (λ x g. (passed x g).0) arguments f.3 in
       let writable = all-writable (IsFormedArgument kind) IsWritablePassed (passed_of vs) (λ x g. (passed x g).1) arguments f.3 in (
         (refl, (a.0, (kind-in k.kinds p knows.kinds callee f.1, given-both k _ _ given b.0))),
-        (a.1, (position-named (λ (k : Kind). k.name) p.kinds named.kinds callee f.1, (writable, (b.1, (tt, (tt, tt)))))),
+        (a.1, (position-named (λ (k : Kind). k.name) p.kinds named callee f.1, (writable, (b.1, (tt, (tt, tt)))))),
       )
   step-fine (All to members priority retry) f =
       let a = future to f.0 in
@@ -104,5 +105,5 @@ module _ (k : Known) (p : Program) (kind : Kind) (knows : Knows k p kind) (state
   step-fine (Again target behind priority) f =
       let b = before behind f.1 in
       let given = position-among (state_names kind.states) target (rw length-map f.0) in
-      ((refl, (rw knows.states given, b.0)), (position-named (λ (s : State). s.name) kind.states named.states target f.0, (b.1, (tt, tt))))
+      ((refl, (rw knows.states given, b.0)), (position-named (λ (s : State). s.name) kind.states (λ i state e. (own.states i state e).name) target f.0, (b.1, (tt, tt))))
   step-fine (Done value) f = let a = term value f in ((refl, (a.0, tt)), (a.1, tt))

@@ -1,10 +1,9 @@
 -- The lines of a state of a well-formed program may stand one behind the other, and name what is given.
-use Rattle.task_writer.proofs.Vocabulary.{◌≡◌, ℕ, suc, ◌+◌, Some, List, [], ◌∷◌, ◌++◌, length, slice_get, refl, sym, ◌∙◌, ap, subst, arith, append_assoc, append-nil, length-map, length-append, AllDiffer, instr_at, IsFormedInstr, IsFormedState, IsLabel, IsLabelAhead, Ends, Leaves, labels_of, State, Kind, Program, Instr, Line, What, Place, Outside, Code, Jumped, Ended, Scope, place_behind, labels_behind, after, IsNew, IsInState, MayFollow, MayName, MayStand, RowsSpellFrom, option_map, Names, name_at, kind_names, label_names, names_in, step_of, code_lines, some-same, get-at, true, Ok, Item, AllGiven, known_among, known_at, line_uses, names_known, given-known, names_of_kinds, names_of_states, names_of_labels, is_among, state_names, map, line_words}
+use Rattle.task_writer.proofs.Vocabulary.{◌≡◌, ℕ, suc, ◌+◌, Some, List, [], ◌∷◌, ◌++◌, length, slice_get, refl, sym, ◌∙◌, ap, subst, arith, append_assoc, append-nil, length-map, length-append, AllDiffer, instr_at, IsFormedInstr, IsFormedState, IsFormedKind, Each, IsName, IsLabel, IsLabelAhead, Ends, Leaves, labels_of, State, Kind, Program, Instr, Line, What, Place, Outside, Code, Jumped, Ended, Scope, place_behind, labels_behind, after, IsNew, IsInState, MayFollow, MayName, MayStand, RowsSpellFrom, option_map, Names, name_at, kind_names, label_names, names_in, step_of, code_lines, some-same, get-at, true, Ok, Item, AllGiven, known_among, known_at, line_uses, names_known, given-known, names_of_kinds, names_of_states, names_of_labels, is_among, state_names, map, line_words}
 use Rattle.task_syntax.specs.declared.instr.Instr.TheVariants.{If, Goto, Label, Spawn, All, Again, Done}
 use Rattle.task_writer.proofs.Itemized.{items_at, numbered}
 use Rattle.task_writer.proofs.Writable.{IsWritable}
 use Rattle.task_writer.proofs.PlainLines.{line-spelled}
-use Rattle.task_writer.proofs.WritableSteps.{AreNamed}
 use Rattle.task_writer.proofs.Found.{get-behind, get-next, new-before, length-front}
 use Rattle.task_writer.proofs.Skipped.{skipped, skips-code}
 use Rattle.task_writer.proofs.ReadPlaces.{name-among}
@@ -152,12 +151,12 @@ pub record Follows (names : List (List ℕ)) (kind : Kind) (kinds roots states :
   pub next : (t : Scope) (m : ℕ) → InCode kind kinds roots states state.code t → t.place ≡ Ended → Stands names t m tail
 
 -- one line of the code may be written, may stand where its place allows it, and names what is given
-line-stands : (p : Program) (kind : Kind) (state : State) → AreNamed p kind state → IsFormedState p kind state → (kinds roots states : List (List ℕ)) (tail : List What)
+line-stands : (p : Program) (kind : Kind) (state : State) → Each p.kinds (λ (k : Kind). IsName k.name) → IsFormedKind p kind → IsFormedState p kind state → (kinds roots states : List (List ℕ)) (tail : List What)
     → Follows (kind_names p.kinds) kind kinds roots states state tail → (front : List Line) (l : Line) (more : List Line) (s : Scope) (m : ℕ)
     → state.code ≡ front ++ l ∷ more → InCode kind kinds roots states front s → MayFollow s.place (step_of (names_in (kind_names p.kinds) kind state) l.instr)
     → let w = What.Step (step_of (names_in (kind_names p.kinds) kind state) l.instr) in
     IsWritable w × MayStand s w × AllGiven (known_among (kind_names p.kinds) s (items_at (m + 1) (code_lines (names_in (kind_names p.kinds) kind state) more ++ tail))) (line_uses w)
-line-stands p kind state named formed kinds roots states tail follows front l more s m e i follow =
+line-stands p kind state named own formed kinds roots states tail follows front l more s m e i follow =
     let K = kind_names p.kinds in
     let at : slice_get state.code (length front) ≡ Some l = ap (λ (c : List Line). slice_get c (length front)) e ∙ get-at front l more in
     let f = formed.instrs (length front) l at in
@@ -172,7 +171,7 @@ line-stands p kind state named formed kinds roots states tail follows front l mo
       variables = i.variables_are;
       states = ap (λ names. names ++ names_of_states items) i.states_are ∙ (ap (λ names. states ++ names) ahead ∙ follows.named (m + 1 + length lines));
     } in
-    let fine = step-fine (known_among K s items) p kind knows state named (length front) (label-in K kind state (length front) more (behind-front front l more state.code e) (m + 1) tail follows.ends) l.instr f in (
+    let fine = step-fine (known_among K s items) p kind knows named own state formed (length front) (label-in K kind state (length front) more (behind-front front l more state.code e) (m + 1) tail follows.ends) l.instr f in (
       fine.1,
       (follow, omega (arith, short, fits, steps), may-name p kind state front l more s e formed.labels_differ i.labels_are l.instr refl f),
       fine.0,
@@ -191,26 +190,26 @@ last-ends p kind state front last formed e =
     let P : Instr → Type 0 = Ends in subst P same end.4
 
 -- the code behind an instruction
-code-rest : (p : Program) (kind : Kind) (state : State) → AreNamed p kind state → IsFormedState p kind state → (kinds roots states : List (List ℕ)) (tail : List What)
+code-rest : (p : Program) (kind : Kind) (state : State) → Each p.kinds (λ (k : Kind). IsName k.name) → IsFormedKind p kind → IsFormedState p kind state → (kinds roots states : List (List ℕ)) (tail : List What)
     → Follows (kind_names p.kinds) kind kinds roots states state tail → (todo front : List Line) (prev : Line) (s : Scope) (m : ℕ) → state.code ≡ front ++ prev ∷ todo → InCode kind kinds roots states (front ++ prev ∷ []) s
     → s.place ≡ place_behind (step_of (names_in (kind_names p.kinds) kind state) prev.instr) → Stands (kind_names p.kinds) s m (code_lines (names_in (kind_names p.kinds) kind state) todo ++ tail)
-code-rest p kind state named formed kinds roots states tail next [] front prev s m e i place =
+code-rest p kind state named own formed kinds roots states tail next [] front prev s m e i place =
     next.next s m (subst (λ (c : List Line). InCode kind kinds roots states c s) (sym e) i) (place ∙ ends-place (names_in (kind_names p.kinds) kind state) prev.instr (last-ends p kind state front prev formed e))
-code-rest p kind state named formed kinds roots states tail next (l ∷ todo) front prev s m e i place =
+code-rest p kind state named own formed kinds roots states tail next (l ∷ todo) front prev s m e i place =
     let n = names_in (kind_names p.kinds) kind state in
     let whole : state.code ≡ (front ++ prev ∷ []) ++ l ∷ todo = e ∙ sym (append_assoc front (prev ∷ []) (l ∷ todo)) in
     let here = instr-here state (length front) prev (ap (λ (c : List Line). slice_get c (length front)) e ∙ get-at front prev (l ∷ todo)) in
     let behind = instr-here state (length front + 1) l (ap (λ (c : List Line). slice_get c (length front + 1)) e ∙ get-next front prev l todo) in
     let follow = follows n prev.instr l.instr (λ leaves. formed.left_by_label (length front) prev.instr l.instr here leaves behind) in
-    let stand = line-stands p kind state named formed kinds roots states tail next (front ++ prev ∷ []) l todo s m whole i (subst (λ (q : Place). MayFollow q (step_of n l.instr)) (sym place) follow) in
-    (stand.0, stand.1, stand.2, code-rest p kind state named formed kinds roots states tail next todo (front ++ prev ∷ []) l (after s (What.Step (step_of n l.instr))) (m + 1) whole (in-next kind kinds roots states (front ++ prev ∷ []) s n l i) refl)
+    let stand = line-stands p kind state named own formed kinds roots states tail next (front ++ prev ∷ []) l todo s m whole i (subst (λ (q : Place). MayFollow q (step_of n l.instr)) (sym place) follow) in
+    (stand.0, stand.1, stand.2, code-rest p kind state named own formed kinds roots states tail next todo (front ++ prev ∷ []) l (after s (What.Step (step_of n l.instr))) (m + 1) whole (in-next kind kinds roots states (front ++ prev ∷ []) s n l i) refl)
 
-pub code-stands : (p : Program) (kind : Kind) (state : State) → AreNamed p kind state → IsFormedState p kind state → (kinds roots states : List (List ℕ)) (tail : List What)
+pub code-stands : (p : Program) (kind : Kind) (state : State) → Each p.kinds (λ (k : Kind). IsName k.name) → IsFormedKind p kind → IsFormedState p kind state → (kinds roots states : List (List ℕ)) (tail : List What)
     → Follows (kind_names p.kinds) kind kinds roots states state tail → (code : List Line) (s : Scope) (m : ℕ) → state.code ≡ code → InCode kind kinds roots states [] s → s.place ≡ Code
     → Stands (kind_names p.kinds) s m (code_lines (names_in (kind_names p.kinds) kind state) code ++ tail)
-code-stands p kind state named formed kinds roots states tail next [] s m e i place =
+code-stands p kind state named own formed kinds roots states tail next [] s m e i place =
     let n = formed.ends.2 in let len : length state.code ≡ 0 = ap (λ (c : List Line). length c) e in absurd (omega (arith, n, len))
-code-stands p kind state named formed kinds roots states tail next (l ∷ todo) s m e i place =
+code-stands p kind state named own formed kinds roots states tail next (l ∷ todo) s m e i place =
     let n = names_in (kind_names p.kinds) kind state in
-    let stand = line-stands p kind state named formed kinds roots states tail next [] l todo s m e i (subst (λ (q : Place). MayFollow q (step_of n l.instr)) (sym place) (any-follows n l.instr)) in
-    (stand.0, stand.1, stand.2, code-rest p kind state named formed kinds roots states tail next todo [] l (after s (What.Step (step_of n l.instr))) (m + 1) e (in-next kind kinds roots states [] s n l i) refl)
+    let stand = line-stands p kind state named own formed kinds roots states tail next [] l todo s m e i (subst (λ (q : Place). MayFollow q (step_of n l.instr)) (sym place) (any-follows n l.instr)) in
+    (stand.0, stand.1, stand.2, code-rest p kind state named own formed kinds roots states tail next todo [] l (after s (What.Step (step_of n l.instr))) (m + 1) e (in-next kind kinds roots states [] s n l i) refl)

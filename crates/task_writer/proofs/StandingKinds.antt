@@ -1,7 +1,7 @@
 -- The lines of a well-formed program may stand one behind the other: states, kinds and roots.
 use Rattle.task_writer.proofs.Vocabulary.{Sort, ◌≡◌, ℕ, zero, suc, ◌<◌, ◌≤◌, Some, List, [], ◌∷◌, ◌++◌, map, length, take, drop, slice_get, refl, sym, ◌∙◌, ap, subst, arith, append_assoc, append-nil, flat_map, length-map, map-append, take-append-drop, length-take-le, IsName, Each, AllDiffer, IsFutureAt, IsFormedState, IsFormedKind, IsFormedRootArgument, IsWellFormed, Variable, State, Kind, RootArgument, Root, Program, differ-front, differ-map, What, Place, Outside, Head, Ended, Scope, first_scope, after, is_variable, IsNew, MayBegin, place_where, name_at, kind_names, variable_names, state_names, root_names, state_lines, var_lines, kind_lines, root_term_of, root_line, lines_of_program, get-at, true, ◌+◌, AllGiven, known_among, line_uses, given-both, futures-listed, UsesRoot, root_term_use, Known, is_given, names_in, code_lines, IsFormedRoot}
 use Rattle.task_writer.proofs.Writable.{AllOf, IsWritableVariable, IsWritableRootTerm}
-use Rattle.task_writer.proofs.WritableSteps.{are-named, position-named, variable-named, all-writable, some-writable}
+use Rattle.task_writer.proofs.WritableSteps.{position-named, variable-named, all-writable, some-writable}
 use Rattle.task_writer.proofs.Found.{new-before, length-front}
 use Rattle.task_writer.proofs.ReadPlaces.{stands-at, variable-place, name-among}
 use Rattle.task_writer.proofs.Itemized.{items_at}
@@ -87,7 +87,7 @@ state-stands p kind named formed kinds roots front state more e f rest next s m 
         futures-differ kind formed.variables_differ state.settled f.settled f.settled_differ,
       ),
       (refl, (refl, given-both k _ _ (futures-listed k _ (futures-in k kind i.variables_are state.holds f.holds)) (futures-listed k _ (futures-in k kind i.variables_are state.settled f.settled)))),
-      code-stands p kind state (are-named p kind state named formed f) f kinds roots ns tail follows state.code (after s w) (m + 1) refl
+      code-stands p kind state named formed f kinds roots ns tail follows state.code (after s w) (m + 1) refl
           (record { kinds_are = i.kinds_are; roots_are = i.roots_are; variables_are = i.variables_are; states_are = refl; labels_are = refl; steps_are = refl }) refl,
     ) in
     subst (λ ws. Stands K s m (w ∷ ws)) (sym (append_assoc lines (flat_map (state_lines K kind) more) (What.End ∷ rest))) body

@@ -1,5 +1,5 @@
 -- The names that a well-formed program has at its positions are names.
-use Rattle.task_writer.proofs.Vocabulary.{◌≡◌, ◌≢◌, ℕ, zero, suc, ◌+◌, ◌<◌, Option, Some, None, List, [], ◌∷◌, map, drop, length, slice_get, refl, sym, ◌∙◌, ap, subst, arith, length-map, IfSome, IsName, EachAt, Each, IsFormedInstr, IsFormedState, IsFormedKind, IsLabelAhead, Sort, Variable, State, Kind, Program, Instr, get-map, option_map, name_at, variable_names, label_names}
+use Rattle.task_writer.proofs.Vocabulary.{◌≡◌, ◌≢◌, ℕ, zero, suc, ◌+◌, ◌<◌, Option, Some, None, List, [], ◌∷◌, map, drop, length, slice_get, refl, sym, ◌∙◌, ap, subst, arith, length-map, IfSome, IsName, EachAt, Each, IsFormedInstr, IsLabelAhead, Sort, Variable, State, Kind, Program, Instr, get-map, option_map, name_at, variable_names, label_names}
 use Rattle.task_syntax.specs.declared.instr.Instr.TheVariants.{Label}
 use Rattle.task_writer.proofs.Named.{name-found}
 use Rattle.task_writer.proofs.ReadPlaces.{named-at, stands-at}
@@ -13,13 +13,6 @@ position-named name xs h at l =
     let x = get-map name xs at (name_at (map name xs) at) e in
     subst IsName x.2 (h at x.0 x.1)
 
--- the names of the kinds, and those of a kind and a state
-pub record AreNamed (p : Program) (kind : Kind) (state : State) : Type 0 where
-  pub kinds : Each p.kinds (λ (k : Kind). IsName k.name)
-  pub variables : Each kind.variables (λ (v : Variable). IsName v.name)
-  pub states : Each kind.states (λ (s : State). IsName s.name)
-  pub labels : (at target : ℕ) → IsLabelAhead state at target → IsName (name_at (label_names state.code) target)
-
 pub variable-named : (kind : Kind) → Each kind.variables (λ (v : Variable). IsName v.name) → (sort : Sort) (at : ℕ)
     → option_map (λ (v : Variable). v.sort) (slice_get kind.variables at) ≡ Some sort → IsName (name_at (variable_names kind.variables) at)
 variable-named kind h sort at e =
@@ -31,7 +24,7 @@ from-next-all [] j = refl
 from-next-all (x ∷ xs) j = let e : 0 + 1 + j ≡ suc j = omega arith in ap (slice_get (x ∷ xs)) e
 
 -- the label at a target has a name
-label-named : (p : Program) (kind : Kind) (state : State) → EachAt state.code (λ at line. IsFormedInstr p kind state at line.instr)
+pub label-named : (p : Program) (kind : Kind) (state : State) → EachAt state.code (λ at line. IsFormedInstr p kind state at line.instr)
     → (at target : ℕ) → IsLabelAhead state at target → IsName (name_at (label_names state.code) target)
 label-named p kind state formed at target ahead =
     let label = label-at state 0 (drop 1 state.code) (from-next-all state.code) target (omega (arith, ahead.0), ahead.1) in
@@ -39,14 +32,6 @@ label-named p kind state formed at target ahead =
     (by label.line.instr label.name label.is (formed target label.line (ap (slice_get state.code) (sym label.sum) ∙ (from-next-all state.code label.place ∙ label.stands)))) where
       by : (instr : Instr) (name : List ℕ) → instr ≡ Label name → IsFormedInstr p kind state target instr → IsName name
       by instr name e f = let P : Instr → Type 0 = IsFormedInstr p kind state target in subst P e f
-
-pub are-named : (p : Program) (kind : Kind) (state : State) → Each p.kinds (λ (k : Kind). IsName k.name) → IsFormedKind p kind → IsFormedState p kind state → AreNamed p kind state
-are-named p kind state kinds k s = record {
-  kinds = kinds;
-  variables = k.variable_names;
-  states = λ i state e. (k.states i state e).name;
-  labels = label-named p kind state s.instrs;
-}
 
 -- ---- lists
 
