@@ -39,20 +39,12 @@ kind-back p kind differ formed n rest =
 
 kinds-skip : (kinds : List (List ℕ)) → SkipsInside (kinds_from kinds)
 unfolding kinds_from
-kinds-skip kinds = record {
-  var = λ variables n items. refl;
-  state = λ name holds settled n items. refl;
-  step = λ step n items. refl;
-  ends = λ n items. refl;
-}
+kinds-skip kinds (What.Kind name arguments) is n items = absurd is
+kinds-skip kinds _ is n items = refl
 
 names-skip : SkipsInside names_of_kinds
-names-skip = record {
-  var = λ variables n items. refl;
-  state = λ name holds settled n items. refl;
-  step = λ step n items. refl;
-  ends = λ n items. refl;
-}
+names-skip (What.Kind name arguments) is n items = absurd is
+names-skip _ is n items = refl
 
 pub kinds-back : (p : Program) → AllDiffer (kind_names p.kinds) → (rest : List What) → ((n : ℕ) → kinds_from (kind_names p.kinds) (items_at n rest) ≡ [])
     → (kinds : List Kind) (n : ℕ) → Each kinds (IsFormedKind p)

@@ -61,12 +61,8 @@ roots-no-names names roots (root ∷ more) n = roots-no-names names roots more (
 
 roots-skip : (kinds earlier : List (List ℕ)) → SkipsInside (roots_from kinds earlier)
 unfolding roots_from
-roots-skip kinds earlier = record {
-  var = λ variables n items. refl;
-  state = λ name holds settled n items. refl;
-  step = λ step n items. refl;
-  ends = λ n items. refl;
-}
+roots-skip kinds earlier (What.Root name kind arguments behind priority) is n items = absurd is
+roots-skip kinds earlier _ is n items = refl
 
 -- kinds give no roots
 pub kinds-no-roots : (names earlier : List (List ℕ)) (rest : List What) (kinds : List Kind) (n : ℕ)

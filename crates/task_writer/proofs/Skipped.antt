@@ -38,19 +38,21 @@ skips-var F each (v ∷ vs) = (each (v ∷ vs), tt)
 abbrev pub inner_lines : List (List ℕ) → Kind → List What
 inner_lines kinds kind = var_lines (drop kind.arguments kind.variables) ++ (flat_map (state_lines kinds kind) kind.states ++ What.End ∷ [])
 
+abbrev pub IsInKind : What → Type 0
+IsInKind (What.Kind name arguments) = ⊥
+IsInKind (What.Root name kind arguments behind priority) = ⊥
+IsInKind _ = Unit {0}
+
 -- no notice of what stands inside a kind
-pub record SkipsInside {Y : Type 0} (F : List Item → Y) : Type 0 where
-  pub var : (variables : List Variable) → Skips F (What.Var variables)
-  pub state : (name : List ℕ) (holds settled : List (List ℕ)) → Skips F (What.State name holds settled)
-  pub step : (step : Step) → Skips F (What.Step step)
-  pub ends : Skips F What.End
+abbrev pub SkipsInside : {Y : Type 0} → (List Item → Y) → Type 0
+SkipsInside F = (w : What) → IsInKind w → Skips F w
 
 skips-state : {Y : Type 0} (F : List Item → Y) → SkipsInside F → (kinds : List (List ℕ)) (kind : Kind) (state : State) → SkipsAll F (state_lines kinds kind state)
 unfolding state_lines
-skips-state F skips kinds kind state = (skips.state _ _ _, skips-code F skips.step kinds kind state state.code)
+skips-state F skips kinds kind state = (skips (What.State state.name _ _) tt, skips-code F (λ step. skips (What.Step step) tt) kinds kind state state.code)
 
 pub skips-inner : {Y : Type 0} (F : List Item → Y) → SkipsInside F → (kinds : List (List ℕ)) (kind : Kind) → SkipsAll F (inner_lines kinds kind)
 skips-inner F skips kinds kind =
     let states = flat_map (state_lines kinds kind) kind.states in
-    skips-append F (var_lines (drop kind.arguments kind.variables)) (states ++ What.End ∷ []) (skips-var F skips.var (drop kind.arguments kind.variables))
-    (skips-append F states (What.End ∷ []) (skips-flat F (state_lines kinds kind) (skips-state F skips kinds kind) kind.states) (skips.ends, tt))
+    skips-append F (var_lines (drop kind.arguments kind.variables)) (states ++ What.End ∷ []) (skips-var F (λ vs. skips (What.Var vs) tt) (drop kind.arguments kind.variables))
+    (skips-append F states (What.End ∷ []) (skips-flat F (state_lines kinds kind) (skips-state F skips kinds kind) kind.states) (skips What.End tt, tt))

@@ -104,25 +104,15 @@ states-stand p kind named formed kinds roots rest next (state ∷ todo) front e 
     state-stands p kind named formed kinds roots front state todo e (formed.states (length front) state at) rest
     (λ t m j place. states-stand p kind named formed kinds roots rest next todo (front ++ state ∷ []) whole t m j (subst (λ (q : Place). MayBegin q) (sym place) tt) (λ none. place)) s m i begin
 
-some-states : (states : List State) → 0 < length states → states ≡ [] → ⊥
-some-states [] some e = omega (arith, some)
-some-states (state ∷ states) some e = cc
-
 -- ---- kinds
 
 each-front : {X : Type 0} (P : X → Type 0) (xs : List X) → Each xs P → AllOf P xs
 each-front P [] h = tt
 each-front P (x ∷ xs) h = (h zero x refl, each-front P xs (λ i. h (suc i)))
 
-all-take : {X : Type 0} (P : X → Type 0) (n : ℕ) (xs : List X) → AllOf P xs → AllOf P (take n xs)
-all-take P zero xs h = tt
-all-take P (suc n) [] h = tt
-all-take P (suc n) (x ∷ xs) h = (h.0, all-take P n xs h.1)
-
-all-drop : {X : Type 0} (P : X → Type 0) (n : ℕ) (xs : List X) → AllOf P xs → AllOf P (drop n xs)
-all-drop P zero xs h = h
-all-drop P (suc n) [] h = tt
-all-drop P (suc n) (x ∷ xs) h = all-drop P n xs h.1
+all-parts : {X : Type 0} (P : X → Type 0) (front back : List X) → AllOf P (front ++ back) → AllOf P front × AllOf P back
+all-parts P [] back h = (tt, h)
+all-parts P (x ∷ front) back h = let r = all-parts P front back h.1 in ((h.0, r.0), r.1)
 
 -- the line of the other variables, where there are any, and what follows it
 locals-stand : (names : List (List ℕ)) (kind : Kind) (arguments locals : List Variable) (s : Scope) (m : ℕ) (tail : List What) → arguments ++ locals ≡ kind.variables → AllDiffer kind.variables → length kind.variables ≤ 255
@@ -149,17 +139,18 @@ kind-stands p formed named front kind more e f tail s m place is next =
     let vs = kind.variables in
     let K = kind_names p.kinds in
     let parts = take-append-drop n vs in
-    let all = each-front IsWritableVariable vs f.variable_names in
+    let all = all-parts IsWritableVariable (take n vs) (drop n vs) (subst (λ xs. AllOf IsWritableVariable xs) (sym parts) (each-front IsWritableVariable vs f.variable_names)) in
+    let some = f.has_state in
     let len = length-take-le n vs f.arguments_are_variables in
     let small = f.arguments_fit in
     let kinds = s.kinds ++ kind.name ∷ [] in
     let body : Stands K (after s (What.Kind kind.name (take n vs))) (m + 1) (var_lines (drop n vs) ++ states_lines K kind kind.states tail) =
-    locals-stand K kind (take n vs) (drop n vs) (after s (What.Kind kind.name (take n vs))) (m + 1) (states_lines K kind kind.states tail) parts f.variables_differ f.variables_fit (all-drop IsWritableVariable n vs all) refl refl
+    locals-stand K kind (take n vs) (drop n vs) (after s (What.Kind kind.name (take n vs))) (m + 1) (states_lines K kind kind.states tail) parts f.variables_differ f.variables_fit all.1 refl refl
     (λ t m head tk tr tv ts. states-stand p kind named f kinds s.roots tail
     (λ u m i ended. (tt, ended, tt, next (after u What.End) (m + 1) refl (i.kinds_are ∙ names-snoc name front kind s.kinds is) i.roots_are))
     kind.states [] refl t m (record { kinds_are = tk; roots_are = tr; variables_are = tv; states_are = ts })
-    (subst (λ (q : Place). MayBegin q) (sym head) tt) (λ none. absurd (some-states kind.states f.has_state none))) in (
-      (f.name, (all-take IsWritableVariable n vs all, tt)),
+    (subst (λ (q : Place). MayBegin q) (sym head) tt) (λ none. let len : length kind.states ≡ 0 = ap (λ (c : List State). length c) none in absurd (omega (arith, some, len)))) in (
+      (f.name, (all.0, tt)),
       (
         place,
         count-below name front kind more p.kinds s.kinds 64 e is formed.kinds_fit,
